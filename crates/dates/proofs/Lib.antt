@@ -1,0 +1,7 @@
+pub mod Computed
+pub mod Rows
+pub mod YearCounts
+pub mod MonthTables
+pub mod Facts
+pub mod EasterTable
+pub mod RoundTrip
