@@ -5,3 +5,4 @@ pub mod MonthTables
 pub mod Facts
 pub mod EasterTable
 pub mod RoundTrip
+pub mod Asked

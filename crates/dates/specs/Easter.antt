@@ -7,6 +7,7 @@ use Rattle.std.specs.declared.result.Result.{Result}
 use Rattle.std.specs.declared.result.Result.the-variants.{Ok, Err}
 use Rattle.faults.specs.Refusals.{Refusal, refuse}
 use Rattle.dates.specs.declared.day.Day.{Day}
+use Rattle.dates.specs.Years.{year-of}
 use Rattle.dates.specs.Civil.{day-number}
 
 -- the number s of the rule, from which month and day are read
@@ -45,3 +46,7 @@ easter-number y = day-number y (easter-month y) (easter-day y)
 -- Easter Sunday of a year from 1900 to 2199; any other year is refused with 42
 abbrev pub easter-answer : ℕ → Result Day Refusal
 easter-answer y = cond (leb 1900 y && leb y 2199) (Ok (record { 0 = easter-number y })) (refuse 42 [])
+
+-- Easter Sunday of the year in which a day lies
+abbrev pub easter-of-day : ℕ → Day
+easter-of-day d = record { 0 = easter-number (1900 + year-of d) }

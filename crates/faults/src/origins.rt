@@ -38,7 +38,7 @@ pub enum GenerationFault {
 #[derive(Clone, Copy, PartialEq, Debug)]
 pub enum TextFault {
     /// 50: the line, from 1, has not the form of an entry.
-    BadLine(u32),
+    BadLine(usize),
     /// 51: more than 65,536 bytes.
     TooLong,
 }
