@@ -7,11 +7,11 @@ use lib.Dec.{eqb, leb}
 abbrev pub good : ℕ → Bool
 good code = eqb code 0
 
--- a layer number outside 1 to 15 counts as 15
+-- the layer of a number: any that is not from 1 to 15 is taken for 15
 abbrev pub layer-of : ℕ → ℕ
 layer-of n = cond (leb 1 n && leb n 15) n 15
 
--- two calendars as one: the left code unless it is 0, then the right code
+-- two calendars as one: what the left one closes, else what the right one closes
 abbrev pub over : (ℕ → ℕ) → (ℕ → ℕ) → ℕ → ℕ
 over left right d = cond (good (left d)) (right d) (left d)
 

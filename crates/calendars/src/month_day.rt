@@ -13,7 +13,7 @@ pub struct MonthDay {
     pub day: u8,
 }
 
-/// The yearly rule: up to 16 dates of month and day; 29 February counts in leap years.
+/// The yearly rule: at most 16 such dates.
 pub type Yearly = Rule<MonthDay, 16>;
 
 pub impl Entry for MonthDay as MonthDayEntry {

@@ -4,6 +4,7 @@ mod civil_date;
 mod conversion;
 mod day;
 mod easter;
+mod easter_table;
 mod gregorian;
 mod month;
 mod weekday;

@@ -48,21 +48,21 @@ pub enum TextFault {
 pub enum SheetFault {
     /// 1: a field is out of its range, days aside.
     OutOfRange(u64),
-    /// 2: a day is outside 365 to 109,207, or maturity is not after effective.
+    /// 2: a day is not from 365 to 109,207, or maturity is too early.
     BadDays(u64),
-    /// 3: the number is live.
+    /// 3: such a bond is live.
     Live(u64),
-    /// 4: the number is not live.
+    /// 4: no such bond is live.
     NotLive(u64),
-    /// 5: more than 100 rolls.
+    /// 5: the bond has above 100 rolls.
     ManyRolls(u64),
     /// 6: a 33rd bond, or more than 400 rolls on the sheet.
     SheetFull(u64),
     /// 7: no such payment.
     NoPayment(u64),
-    /// 11: a move between equal days.
+    /// 11: a move from a day to itself.
     SameDay,
-    /// 12: the day to close is closed, or the day to open is good; names the day.
+    /// 12: a day to be closed was closed before, or one to be opened was good; names that day.
     WrongState(u32),
     /// 30: the list has fewer places than there are changes.
     ShortList,

@@ -1,0 +1,2 @@
+pub mod Bonds
+pub mod BondTerms

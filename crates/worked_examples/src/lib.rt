@@ -1,0 +1,8 @@
+//! Worked examples of the layers, as tests.
+
+#[cfg(test)]
+mod calendar_examples;
+#[cfg(test)]
+mod date_examples;
+#[cfg(test)]
+mod rule_examples;
