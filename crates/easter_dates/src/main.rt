@@ -1,4 +1,5 @@
-//! Prints Easter Sunday of each year from 1900 to 2199, to be held to dates worked out elsewhere.
+//! Prints Easter Sunday of each year from 1900 to 2199. The file `stdout` beside `src` is from outside: the dates that
+//! Debian's `ncal -e` prints for these years, to which the gate holds this program.
 
 use dates::easter_sunday;
 use std::error::AnyError;
