@@ -6,3 +6,4 @@ pub mod Facts
 pub mod EasterTable
 pub mod RoundTrip
 pub mod Asked
+pub mod MonthShifts

@@ -11,7 +11,7 @@ use Rattle.std.specs.declared.result.Result.{Result}
 use Rattle.std.specs.declared.result.Result.the-variants.{Ok}
 use Rattle.faults.specs.Refusals.{Refusal, naming, refuse}
 use Rattle.dates.specs.declared.day.Day.{Day}
-use Rattle.schedule.specs.declared.bond.Bond.{Bond}
+use Rattle.bonds.specs.declared.bond.Bond.{Bond}
 use Rattle.sheet.specs.declared.call.Call.{Call}
 use Rattle.sheet.specs.declared.call.Call.the-variants.{Enter}
 use Rattle.notation.specs.InputLines.{Part, remark, entry, too-long}

@@ -5,8 +5,8 @@ ghost use Rattle.notation.specs.Entries.{field-at, number-at, date-at, bond-at
 use crate::date_text::date_of;
 use crate::numeral::number_of;
 use crate::scan::len_before;
+use bonds::Bond;
 use dates::Day;
-use schedule::Bond;
 use sheet::Call;
 
 /// What is left of a line.

@@ -1,4 +1,4 @@
-use schedule::Bond;
+use bonds::Bond;
 
 /// What can be asked of a sheet.
 #[derive(Clone, Copy)]

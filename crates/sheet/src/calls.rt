@@ -3,15 +3,15 @@ use crate::call::Call;
 use crate::sheet::MOST_BONDS;
 use crate::sheet::MOST_ROLLS;
 use crate::sheet::Sheet;
+use bonds::Bond;
+use bonds::Rolls;
 use calendars::Calendar;
+use conventions::Convention;
 use faults::Fault;
+use faults::FaultFromGeneration;
 use faults::FaultFromSheet;
-use faults::RollAt;
 use faults::SheetFault;
-use schedule::Bond;
-use schedule::Convention;
-use schedule::Rolls;
-use schedule::generate;
+use generation::bond_roll;
 
 impl<K: Calendar, C: Convention> Sheet<K, C> {
     /// A sheet without bonds.
@@ -37,15 +37,9 @@ impl<K: Calendar, C: Convention> Sheet<K, C> {
 
     /// Generates every roll of a bond; the first that fails is named.
     fn try_rolls(&self, rolls: &Rolls) -> Result<(), Fault> {
-        let bond = u64::from(rolls.number());
-        for roll in 0..rolls.count() {
-            if let Some(day) = rolls.day(roll) {
-                let _ = generate(
-                    &self.calendar,
-                    &self.convention,
-                    RollAt { bond, roll, day },
-                    rolls.lag(roll),
-                )?;
+        for i in 0..rolls.count() {
+            if let Some(roll) = bond_roll(&self.calendar, &self.convention, rolls, i) {
+                let _ = roll?;
             }
         }
         Ok(())
@@ -57,9 +51,7 @@ impl<K: Calendar, C: Convention> Sheet<K, C> {
         if self.is_live(bond.number) {
             return Err(Fault::Sheet(SheetFault::Live(bond.number)));
         }
-        let Some(rolls) = terms.rolls() else {
-            return Err(Fault::Sheet(SheetFault::ManyRolls(bond.number)));
-        };
+        let rolls = terms.rolls()?;
         let count = rolls.count();
         if self.count >= MOST_BONDS || count > MOST_ROLLS - self.rolls {
             return Err(Fault::Sheet(SheetFault::SheetFull(bond.number)));

@@ -1,0 +1,5 @@
+pub mod Growing
+pub mod TurnLaws
+pub mod ConventionLaws
+pub mod Scanning
+pub mod Adjusting

@@ -1,0 +1,3 @@
+pub mod Tries
+pub mod Turns
+pub mod FirstGood

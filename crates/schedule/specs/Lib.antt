@@ -1,2 +1,0 @@
-pub mod Bonds
-pub mod BondTerms
