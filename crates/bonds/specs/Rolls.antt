@@ -71,7 +71,7 @@ passing back ok f (suc n) = cond (ok (f (suc n))) (joined back (f (suc n)) (pass
 unfoldable pub regular : Terms → List ℕ
 regular t = passing (is-back t) (between t) (shifted t) 3600
 
--- there is no stub if the next shift falls exactly on the other end
+-- a period is left over, unless the next shift meets the other end
 abbrev pub has-stub : Terms → Bool
 has-stub t = not (eqb (shifted t (suc (length (regular t)))) (other-end t))
 

@@ -2,6 +2,7 @@
 
 mod calendar;
 mod easter_offset;
+mod good_days;
 mod joint;
 mod layer;
 mod listed;
@@ -15,6 +16,7 @@ pub use easter_offset::EasterOffset;
 pub use easter_offset::EasterOffsetDefault;
 pub use easter_offset::EasterOffsetEntry;
 pub use easter_offset::EasterRule;
+pub use good_days::is_good_day;
 pub use joint::Joint;
 pub use joint::JointCalendar;
 pub use layer::Layer;

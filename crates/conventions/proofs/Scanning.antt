@@ -40,12 +40,12 @@ unfolding first-good
 runs-out good ds k h = rw (drop-of-length-le ds h)
 
 -- a day tried stands at its place of the list
-record Tried (tries : ℕ → List ℕ) (u k d : ℕ) : Type 0 where
-  serves : served u ≡ true
-  within : k < length (tries u)
-  here : getD (tries u) k 0 ≡ d
+pub record Tried (tries : ℕ → List ℕ) (u k d : ℕ) : Type 0 where
+  pub serves : served u ≡ true
+  pub within : k < length (tries u)
+  pub here : getD (tries u) k 0 ≡ d
 
-tried : (tries : ℕ → List ℕ) (u k d : ℕ) → Ok d ≡ nth-answer tries u k → Tried tries u k d
+pub tried : (tries : ℕ → List ℕ) (u k d : ℕ) → Ok d ≡ nth-answer tries u k → Tried tries u k d
 tried tries u k d e = record { serves = grind (arith, tells); within = grind (arith, tells); here = grind (arith, tells) }
 
 -- it is not far from u

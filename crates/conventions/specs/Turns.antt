@@ -29,6 +29,6 @@ following u = turning (u + 30) 0 u
 abbrev pub preceding : ℕ → List ℕ
 preceding u = turning u 30 u
 
--- u up to the last day of its month, then u - 1 down to u - 30
+-- u and on to its month's end, then the 30 days before u, the nearest first
 abbrev pub modified-following : ℕ → List ℕ
 modified-following u = turning (last-of u) 30 u

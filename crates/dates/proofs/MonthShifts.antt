@@ -8,16 +8,12 @@ use Rattle.dates.specs.Years.{leap, new-year, month-len, month-start, year-of,
 use Rattle.dates.specs.Months.{month-no, first-of, len-of, cut-to}
 use Rattle.dates.proofs.Rows.{rises}
 use Rattle.dates.proofs.YearCounts.{year-more}
-use Rattle.dates.proofs.MonthTables.{month-more, whole, len-low, len-high}
+use Rattle.dates.proofs.MonthTables.{month-more, whole, len-low}
 use Rattle.dates.proofs.Facts.{parts, month-zero, year-end}
 
 pub len-least : (q : ℕ) → 28 ≤ len-of q
 unfolding len-of
 len-least q = len-low (leap (1900 + q / 12)) (q % 12) (omega arith)
-
-pub len-most : (q : ℕ) → len-of q ≤ 31
-unfolding len-of
-len-most q = len-high (leap (1900 + q / 12)) (q % 12) (omega arith)
 
 -- the next month begins where this one ends
 pub first-more : (q : ℕ) → first-of (suc q) ≡ first-of q + len-of q

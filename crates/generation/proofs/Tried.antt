@@ -4,12 +4,12 @@ use mathlib.Core.Bool.{Bool, true, false, cond}
 use mathlib.Core.List.{List, [], _∷_}
 use Prim.Native.Nat.{ℕ, _<_}
 use native.Mathlib.Omega.{arith}
-use lib.ListN.{length, getD}
+use lib.ListN.{length}
 use Rattle.std.specs.declared.result.Result.{Result}
 use Rattle.std.specs.declared.result.Result.the-variants.{Ok, Err}
 use Rattle.std.proofs.shelf.Ways.{tells}
 use Rattle.faults.specs.Refusals.{Refusal, refuse}
-use Rattle.conventions.specs.Tries.{served, count-answer, nth-answer}
+use Rattle.conventions.specs.Tries.{served, count-answer}
 use Rattle.generation.specs.Rolls.{RollDays, Span, span, up-to, stretched, footing, span-answer, footing-answer}
 
 -- a count was given, so the day is served
@@ -18,10 +18,6 @@ count-served tries u n e = grind (arith, tells)
 
 pub count-is : (tries : ℕ → List ℕ) (u n : ℕ) → Ok n ≡ count-answer tries u → n ≡ length (tries u)
 count-is tries u n e = grind (arith, tells)
-
--- a day was given, so it is the one at its place
-pub nth-is : (tries : ℕ → List ℕ) (u k d : ℕ) → Ok d ≡ nth-answer tries u k → d ≡ getD (tries u) k 0
-nth-is tries u k d e = grind (arith, tells)
 
 -- an answer for a day that is served
 pub served-answer : {A : Type 0} (u : ℕ) (x y : A) (f : Result A Refusal) → served u ≡ true → x ≡ y → Ok x ≡ cond (served u) (Ok y) f

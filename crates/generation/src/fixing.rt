@@ -1,26 +1,15 @@
 ghost use mathlib.Core.Path.{_≡_};
-ghost use Prim.Native.Nat.{_≤_, _<_};
 ghost use Rattle.std.specs.Options.{mapped};
 ghost use Rattle.calendars.specs.Codes.{good};
 ghost use Rattle.dates.specs.declared.day.Day.{Day};
 ghost use Rattle.generation.specs.Rolls.{fixing};
 use calendars::Calendar;
+use calendars::is_good_day;
 use conventions::Adjusted;
 use dates::Day;
 
 /// How many days before an adjusted day are looked at for its fixing.
 const WINDOW: u32 = 60;
-
-/// Whether a day of the calendars is good.
-pub(crate) fn is_good_day<K: Calendar>(calendar: &K, day: u32) -> bool
-    requires { ⌜ day ≤ 109572 ⌝ }
-    ensures { λ r. ⌜ r ≡ good (K·Calendar .codes (now (calendar .entry)) day) ⌝ }
-{
-    match calendar.is_good(Day(day)) {
-        Ok(good) => good,
-        Err(_) => false,
-    }
-}
 
 /// The `lag`-th good day among the 60 days before an adjusted day, counted back, if there are so many.
 pub fn fixing_before<K: Calendar>(calendar: &K, adjusted: Adjusted, lag: u32) -> Option<Day>
@@ -31,7 +20,7 @@ pub fn fixing_before<K: Calendar>(calendar: &K, adjusted: Adjusted, lag: u32) ->
     let mut window = WINDOW;
     while window > 0 {
         day = day.saturating_sub(1);
-        if is_good_day(calendar, day) {
+        if is_good_day(calendar, Day(day)) {
             if left == 1 {
                 return Some(Day(day));
             }

@@ -107,7 +107,7 @@ fn write_rolls(out: &mut String, rolls: &Rolls) -> Result<(), AnyError> {
 }
 
 /// The line with its answer behind it.
-pub fn answer(heap: Global, line: &str) -> Result<String, AnyError> {
+pub(crate) fn answer(heap: Global, line: &str) -> Result<String, AnyError> {
     let words: Vec<&str> = line.split(' ').collect(heap)?;
     let mut out = String::from_str(heap, line)?;
     match words.as_slice() {

@@ -11,6 +11,7 @@ use crate::adjusted::Adjusted;
 use crate::convention::Convention;
 use crate::unadjusted::Unadjusted;
 use calendars::Calendar;
+use calendars::is_good_day;
 use dates::Day;
 use faults::GenerationFault;
 use faults::RollAt;
@@ -21,17 +22,6 @@ impl Adjusted {
         ensures { λ r. ⌜ r ≡ record { 0 = self .number } ⌝ }
     {
         Day(self.number)
-    }
-}
-
-/// Whether a day up to 31 December 2199 is good.
-fn is_good_day<K: Calendar>(calendar: &K, day: Day) -> bool
-    requires { ⌜ day .0 ≤ 109572 ⌝ }
-    ensures { λ r. ⌜ r ≡ good (K·Calendar .codes (now (calendar .entry)) (day .0)) ⌝ }
-{
-    match calendar.is_good(day) {
-        Ok(answer) => answer,
-        Err(_) => unreachable(),
     }
 }
 

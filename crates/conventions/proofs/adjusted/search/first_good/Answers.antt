@@ -3,6 +3,7 @@ use mathlib.Core.Path.{_≡_, sym, _∙_}
 use native.Mathlib.Omega.{arith}
 use Rattle.std.specs.declared.result.Result.the-variants.{Ok}
 use Rattle.calendars.specs.Codes.{good}
+use Rattle.calendars.proofs.GoodDays.{within}
 use Rattle.conventions.specs.Tries.{nth-answer}
 use Rattle.conventions.proofs.Scanning.{not-far, found-here, found-later, found-none}
 use Rattle.conventions.proofs.adjusted.search.first_good.Given as given
@@ -14,10 +15,6 @@ range g x u k d =
     let law = g .C·Convention·met in
     not-far (g .C·Convention .tries x) (g .C·Convention .reach) u k d (law .small x) (law .near x u d)
 
-pub is-good-day-requires : need.is-good-day-requires
-is-good-day-requires g c κs =
-    omega (arith, range g (c .args .convention .now) (c .args .u .0) (c .loop-k .k) (c .in-Continue-day .day .0) (c .in-Continue-day .ensures tt))
-
 pub ghost-result : need.ghost-result
 ghost-result g c =
     (range g (c .args .convention .now) (c .args .u .0) (c .loop-k .k) (c .in-Continue-day .day .0) (c .in-Continue-day .ensures tt), tt)
@@ -25,12 +22,12 @@ ghost-result g c =
 pub returns-then-is-good-day : need.returns-then-is-good-day
 returns-then-is-good-day g c =
     found-here (λ d. good (g .K·Calendar .codes (c .args .calendar .now) d)) (g .C·Convention .tries (c .args .convention .now)) (c .args .u .0) (c .loop-k .k)
-    (c .in-Continue-day .day .0) (c .in-Continue-day .ensures tt) (c .loop-k .inv) (sym (c .is-good-day .ensures) ∙ c .if-is-good-day .taken)
+    (c .in-Continue-day .day .0) (c .in-Continue-day .ensures tt) (c .loop-k .inv) (sym (within (c .in-Continue-day .day .0) _ _ (omega (arith, range g (c .args .convention .now) (c .args .u .0) (c .loop-k .k) (c .in-Continue-day .day .0) (c .in-Continue-day .ensures tt))) (c .is-good-day .ensures)) ∙ c .if-is-good-day .taken)
 
 pub loop-k-again : need.loop-k-again
 loop-k-again g c =
     found-later (λ d. good (g .K·Calendar .codes (c .args .calendar .now) d)) (g .C·Convention .tries (c .args .convention .now)) (c .args .u .0) (c .loop-k .k)
-    (c .in-Continue-day .day .0) (c .in-Continue-day .ensures tt) (c .loop-k .inv) (sym (c .is-good-day .ensures) ∙ c .if-is-good-day .left)
+    (c .in-Continue-day .day .0) (c .in-Continue-day .ensures tt) (c .loop-k .inv) (sym (within (c .in-Continue-day .day .0) _ _ (omega (arith, range g (c .args .convention .now) (c .args .u .0) (c .loop-k .k) (c .in-Continue-day .day .0) (c .in-Continue-day .ensures tt))) (c .is-good-day .ensures)) ∙ c .if-is-good-day .left)
 
 pub returns : need.returns
 returns g c =
