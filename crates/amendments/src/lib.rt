@@ -1,5 +1,7 @@
 //! Amendable calendars: what one is, and the amendment layer, which makes one of any calendar.
 
+#![tactic(auto)]
+
 mod amendable;
 mod amendment;
 mod layer;

@@ -1,5 +1,7 @@
 //! Bonds: their terms, the unadjusted rolls that these give, and amounts of interest.
 
+#![tactic(auto)]
+
 mod amounts;
 mod bond;
 mod checks;

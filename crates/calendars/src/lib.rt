@@ -1,5 +1,7 @@
 //! Holiday calendars: each gives every day one code, 0 where the day is good, else the layer that closes it.
 
+#![tactic(auto)]
+
 mod calendar;
 mod easter_offset;
 mod good_days;

@@ -1,5 +1,7 @@
 //! The payments of a bond that alter, written into a list that the caller lends.
 
+#![tactic(auto)]
+
 mod change;
 mod listing;
 

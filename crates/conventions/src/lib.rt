@@ -1,5 +1,7 @@
 //! Business day conventions: from the day that a bond's terms give to the day on which money moves.
 
+#![tactic(auto)]
+
 mod adjusted;
 mod convention;
 mod following;

@@ -1,5 +1,7 @@
 //! Days since 1 January 1900, civil dates, months, weekdays and Easter, from 1900 to 2199.
 
+#![tactic(auto)]
+
 mod civil_date;
 mod conversion;
 mod day;

@@ -1,5 +1,7 @@
 //! The day cache: the codes of some three years kept at hand, over any amendable calendar.
 
+#![tactic(auto)]
+
 mod day_cache;
 mod nibbles;
 

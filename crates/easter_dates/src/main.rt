@@ -1,6 +1,8 @@
 //! Prints Easter Sunday of each year from 1900 to 2199. The file `stdout` beside `src` is from outside: the dates that
 //! Debian's `ncal -e` prints for these years, to which the gate holds this program.
 
+#![tactic(auto)]
+
 use anyhow::anyhow;
 use dates::easter_sunday;
 

@@ -1,5 +1,7 @@
 //! From a bond's rolls to adjusted days, fixings and payments, over any calendar and any convention.
 
+#![tactic(auto)]
+
 mod fixing;
 mod footing;
 mod generating;

@@ -1,5 +1,7 @@
 //! The standing sheet: live bonds with their schedules, over one amendable calendar and one convention.
 
+#![tactic(auto)]
+
 mod call;
 mod place;
 mod plan;

@@ -1,5 +1,7 @@
 //! The text of the program: lines, entries, and what is printed.
 
+#![tactic(auto)]
+
 mod date_text;
 mod fields;
 mod line;

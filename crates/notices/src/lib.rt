@@ -1,5 +1,7 @@
 //! Notices that amend a calendar, and the calendar as it would be.
 
+#![tactic(auto)]
+
 mod amending;
 mod code;
 mod notice;

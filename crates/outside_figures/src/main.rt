@@ -3,6 +3,8 @@
 //! The files `stdin` and `stdout` beside `src` are from outside, by QuantLib 1.29: 250 schedules, and the dates of its 600
 //! adjusted ones that conventions serve (up to 2198).
 
+#![tactic(auto)]
+
 mod asked;
 
 use asked::answer;

@@ -1,5 +1,7 @@
 //! From the bytes of an input to the text that is printed for it.
 
+#![tactic(auto)]
+
 mod no_memory;
 mod session;
 

@@ -1,5 +1,7 @@
 //! The standing sheet: live bonds over one calendar and one convention.
 
+#![tactic(auto)]
+
 mod call;
 mod calls;
 mod sheet;

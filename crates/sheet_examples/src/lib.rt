@@ -1,5 +1,7 @@
 //! Examples of the standing sheet, as tests: its room, its refusals and its readings.
 
+#![tactic(auto)]
+
 #[cfg(test)]
 mod reading_examples;
 #[cfg(test)]

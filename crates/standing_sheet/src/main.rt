@@ -1,5 +1,7 @@
 //! Reads standard input whole, and prints the report on it.
 
+#![tactic(auto)]
+
 use report::{NoMemory, report};
 use std::io;
 use std::io::Read;

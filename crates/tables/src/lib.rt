@@ -1,5 +1,7 @@
 //! Records of any kind kept by rising key; the caller lends the places for each call.
 
+#![tactic(auto)]
+
 mod keyed;
 mod table;
 

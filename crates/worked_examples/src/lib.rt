@@ -1,5 +1,7 @@
 //! Worked examples of the layers, as tests.
 
+#![tactic(auto)]
+
 #[cfg(test)]
 mod amendment_examples;
 #[cfg(test)]
