@@ -19,7 +19,7 @@ RECORD = re.compile(r"\b(?:record|data|ruleset)\s+(?:pub\s+)?(" + WORD + r")")
 PARAM = re.compile(r"[({]((?:" + WORD + r"\s+)+):")
 LET = re.compile(r"\blet\s+(" + WORD + r")\s*[:=]")
 AS = re.compile(r"\bas\s+(" + WORD + r")")
-GOAL = re.compile(r"^pub (" + WORD + r") : goal\.", re.M)
+GOAL = re.compile(r"^(?:abbrev )?pub (" + WORD + r") : goal\.", re.M)
 
 
 def files(suffixes):

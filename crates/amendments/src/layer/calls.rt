@@ -88,7 +88,7 @@ impl<K: Calendar> Amendable for AmendmentLayer<K> {
     ghost risen = { λ s. rising_map day_of itself 0 (take s.count s.entries) ∙ s.risen };
 
     ghost few = { λ s.
-        let m = length-map (take s.count s.entries) day-of in
+        let m = length-map (take s.count s.entries) day_of in
         let t = length-take-le s.count s.entries (omega arith) in
         omega arith };
 

@@ -4,9 +4,9 @@ use Rattle.calendars.proofs.target_days.target_calendar.Goals as goal
 
 pub returns : goal.returns
 returns c =
-    let y = c.in-ok-yearly-holidays.ensures in
-    let e = c.in-ok-easter-holidays.ensures in
-    let yearly : held 16 c.in-ok-yearly-holidays.field-0 ≡ target_yearly = cc in
-    let easter : held 8 c.in-ok-easter-holidays.field-0 ≡ target_easter = cc in
+    let y = c.in_ok-yearly_holidays.ensures in
+    let e = c.in_ok-easter_holidays.ensures in
+    let yearly : held 16 c.in_ok-yearly_holidays.field-0 ≡ target_yearly = cc in
+    let easter : held 8 c.in_ok-easter_holidays.field-0 ≡ target_easter = cc in
     ap (λ t. Ok (target_codes t)) (c.new-2.ensures ∙ ap (λ r. record { left = c.new-weekly.result; right = r }) c.new.ensures)
     ∙ (λ i. Ok (layered (c.new-weekly.ensures i) (yearly i) (easter i)))

@@ -2,18 +2,18 @@ use Rattle.std.proofs.Common.{rules}
 use Rattle.dates.specs.Years.{month_len}
 use Rattle.calendars.proofs.target_days.yearly_holidays.Goals as goal
 
-pub returns-in-err-add : goal.returns-in-err-add
+pub returns-in_err-add : goal.returns-in_err-add
 unfolding month_len
-returns-in-err-add c = search rules
+returns-in_err-add c = search rules
 
-pub returns-in-err-add-2 : goal.returns-in-err-add-2
+pub returns-in_err-add-2 : goal.returns-in_err-add-2
 unfolding month_len
-returns-in-err-add-2 c = search rules
+returns-in_err-add-2 c = search rules
 
-pub returns-in-err-add-3 : goal.returns-in-err-add-3
+pub returns-in_err-add-3 : goal.returns-in_err-add-3
 unfolding month_len
-returns-in-err-add-3 c = search rules
+returns-in_err-add-3 c = search rules
 
-pub returns-in-err-add-4 : goal.returns-in-err-add-4
+pub returns-in_err-add-4 : goal.returns-in_err-add-4
 unfolding month_len
-returns-in-err-add-4 c = search rules
+returns-in_err-add-4 c = search rules

@@ -7,8 +7,8 @@ use Rattle.dates.proofs.gregorian.month_of.Goals as goal
 pub loop-m-preserved : goal.loop-m-preserved
 loop-m-preserved c = grind (arith, pass_at (month_start c.args.long) c.loop-m.m c.args.rest)
 
-pub returns-else-month-start-rest : goal.returns-else-month-start-rest
-returns-else-month-start-rest c = grind (arith, stop_at (month_start c.args.long) c.loop-m.m c.args.rest)
+pub returns-else-month_start-rest : goal.returns-else-month_start-rest
+returns-else-month_start-rest c = grind (arith, stop_at (month_start c.args.long) c.loop-m.m c.args.rest)
 
 pub returns-after-loop-m : goal.returns-after-loop-m
 returns-after-loop-m c = grind (arith, month_zero c.args.long, stop_at (month_start c.args.long) c.loop-m.m c.args.rest)

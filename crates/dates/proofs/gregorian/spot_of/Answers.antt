@@ -3,12 +3,12 @@ use Rattle.dates.specs.Years.{month_of, place_of}
 use Rattle.dates.proofs.Facts.{in_year, in_month, place_high}
 use Rattle.dates.proofs.gregorian.spot_of.Goals as goal
 
-pub overflow-sub-rest : goal.overflow-sub-rest
-overflow-sub-rest c = grind (arith, in_year c.args.d c.requires)
+pub overflow_sub-rest : goal.overflow_sub-rest
+overflow_sub-rest c = grind (arith, in_year c.args.d c.requires)
 
-pub overflow-sub-result : goal.overflow-sub-result
+pub overflow_sub-result : goal.overflow_sub-result
 unfolding month_of
-overflow-sub-result c = grind (arith, in_month c.args.d c.requires)
+overflow_sub-result c = grind (arith, in_month c.args.d c.requires)
 
 pub returns : goal.returns
 unfolding month_of place_of

@@ -11,29 +11,29 @@ pub returns-then-day-at : goal.returns-then-day-at
 returns-then-day-at g c =
     let tries : ℕ → List ℕ = g.C.Convention.tries c.args.convention.now in
     let u = c.args.u.0 in
-    let n = c.in-ok-count.ensures in
+    let n = c.in_ok-count.ensures in
     let m = count_is tries u _ n in
     let w : c.loop-k.k < length (tries u) = omega arith in
     served_answer u _ _ _ (count_served tries u _ n)
-    (at_end c.loop-k.low c.loop-k.high c.args.at (tries u) c.loop-k.k c.in-ok-day.day.0 _ _ w
-    (sym (tried tries u c.loop-k.k _ c.in-ok-day.ensures).here) c.if-day-at.true c.min-low.ensures c.max-high.ensures
+    (at_end c.loop-k.low c.loop-k.high c.args.at (tries u) c.loop-k.k c.in_ok-day.day.0 _ _ w
+    (sym (tried tries u c.loop-k.k _ c.in_ok-day.ensures).here) c.if-day-at.true c.min-low.ensures c.max-high.ensures
     ∙ c.loop-k.invariant)
 
 pub loop-k-preserved : goal.loop-k-preserved
 loop-k-preserved g c =
     let tries : ℕ → List ℕ = g.C.Convention.tries c.args.convention.now in
     let u = c.args.u.0 in
-    let m = count_is tries u _ c.in-ok-count.ensures in
+    let m = count_is tries u _ c.in_ok-count.ensures in
     let w : c.loop-k.k < length (tries u) = omega arith in
-    at_next c.loop-k.low c.loop-k.high c.args.at (tries u) c.loop-k.k c.in-ok-day.day.0 _ _ w
-    (sym (tried tries u c.loop-k.k _ c.in-ok-day.ensures).here) c.if-day-at.false c.min-low.ensures c.max-high.ensures
+    at_next c.loop-k.low c.loop-k.high c.args.at (tries u) c.loop-k.k c.in_ok-day.day.0 _ _ w
+    (sym (tried tries u c.loop-k.k _ c.in_ok-day.ensures).here) c.if-day-at.false c.min-low.ensures c.max-high.ensures
     ∙ c.loop-k.invariant
 
 pub returns : goal.returns
 returns g c =
     let tries : ℕ → List ℕ = g.C.Convention.tries c.args.convention.now in
     let u = c.args.u.0 in
-    let n = c.in-ok-count.ensures in
+    let n = c.in_ok-count.ensures in
     let m = count_is tries u _ n in
     served_answer u _ _ _ (count_served tries u _ n)
     (run_out c.loop-k.low c.loop-k.high c.args.at (tries u) c.loop-k.k (omega arith) ∙ c.loop-k.invariant)

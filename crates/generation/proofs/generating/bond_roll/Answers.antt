@@ -15,6 +15,6 @@ returns-then-i-count g c =
 pub returns : goal.returns
 returns g c =
     record {
-      is = grind (arith, nat_tests, c.count.ensures.is, c.roll-of-bond.ensures);
+      is = grind (arith, nat_tests, c.count.ensures.is, c.roll_of_bond.ensures);
       order = never_backward _ _ c.args.rolls.now.terms (g.met.C.Convention.order c.args.convention.now _);
     }

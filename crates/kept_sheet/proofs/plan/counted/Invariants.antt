@@ -4,8 +4,8 @@ use Rattle.kept_sheet.specs.KeptBonds.{kept}
 use Rattle.kept_sheet.specs.Plans.{counted}
 use Rattle.kept_sheet.proofs.plan.counted.Given as goal
 
-abbrev pub invariant_loop_place : goal.invariant-loop-place
-invariant_loop_place g l =
+abbrev pub invariant-loop-place : goal.invariant-loop-place
+invariant-loop-place g l =
     (l.total + counted (g.C.Convention.tries l.convention) (map number_of l.days) (kept (drop l.place-index l.places))
     ≡ counted (g.C.Convention.tries l.convention) (map number_of l.days) (kept l.places))
     × (l.total ≤ 100 * l.place-index)

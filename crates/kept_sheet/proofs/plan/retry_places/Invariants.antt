@@ -8,8 +8,8 @@ use Rattle.kept_sheet.specs.KeptBonds.{kept}
 use Rattle.kept_sheet.specs.Plans.{SameBonds}
 use Rattle.kept_sheet.proofs.plan.retry_places.Given as goal
 
-abbrev pub invariant_loop_i : goal.invariant-loop-i
-invariant_loop_i g l =
+abbrev pub invariant-loop-i : goal.invariant-loop-i
+invariant-loop-i g l =
     (prefixed (kept (take l.i l.anew))
     (each_granted (retried (λ d. good (g.K.Calendar.codes l.calendar d)) (g.C.Convention.tries l.convention) (map number_of l.days)) (kept (drop l.i (take l.count l.places))))
     ≡ each_granted (retried (λ d. good (g.K.Calendar.codes l.calendar d)) (g.C.Convention.tries l.convention) (map number_of l.days)) (kept (take l.count l.places)))

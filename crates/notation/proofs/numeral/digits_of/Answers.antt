@@ -9,14 +9,14 @@ use Rattle.notation.proofs.numeral.digits_of.Goals as goal
 tenfold : (v i : ℕ) → v < 10 ^ i → i < 12 → (v * 10 + 9 < 10 ^ (i + 1)) × (10 ^ (i + 1) ≤ 10 ^ 12)
 tenfold v i small few = (rw (add-one, pow-suc) (omega arith), pow-le-pow_right {n = 10} (omega arith) {i = i + 1} {j = 12} (omega arith))
 
-pub returns-then-not-is-ascii-digit : goal.returns-then-not-is-ascii-digit
-returns-then-not-is-ascii-digit c = let e = at_drop_more all_ascii_digits c.args.text.now c.loop-byte.byte-index 0 (omega arith) in record { is = grind arith; bound = tt }
+pub returns-then-not-is_ascii_digit : goal.returns-then-not-is_ascii_digit
+returns-then-not-is_ascii_digit c = let e = at_drop_more all_ascii_digits c.args.text.now c.loop-byte.byte-index 0 (omega arith) in record { is = grind arith; bound = tt }
 
-pub overflow-mul-value : goal.overflow-mul-value
-overflow-mul-value c = omega (arith, tenfold c.loop-byte.value c.loop-byte.byte-index c.loop-byte.invariant.2 (omega arith))
+pub overflow_mul-value : goal.overflow_mul-value
+overflow_mul-value c = omega (arith, tenfold c.loop-byte.value c.loop-byte.byte-index c.loop-byte.invariant.2 (omega arith))
 
-pub overflow-add-value : goal.overflow-add-value
-overflow-add-value c = omega (arith, tenfold c.loop-byte.value c.loop-byte.byte-index c.loop-byte.invariant.2 (omega arith), c.type-inv.text c.loop-byte.byte-index)
+pub overflow_add-value : goal.overflow_add-value
+overflow_add-value c = omega (arith, tenfold c.loop-byte.value c.loop-byte.byte-index c.loop-byte.invariant.2 (omega arith), c.type_inv.text c.loop-byte.byte-index)
 
 pub loop-byte-preserved : goal.loop-byte-preserved
 loop-byte-preserved c =

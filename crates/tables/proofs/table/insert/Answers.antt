@@ -12,14 +12,14 @@ returns-then-count-places g c =
       law = λ up. put_law g.R.Keyed.key (take c.args.count c.args.places.now) up c.args.record;
     }
 
-pub returns-in-default : goal.returns-in-default
-returns-in-default g c =
+pub returns-in_default : goal.returns-in_default
+returns-in_default g c =
     let key = g.R.Keyed.key in
     let E = c.args.places.now in
     let n = c.args.count in
     let r = c.args.record in
-    let hit : Ok c.in-default.field-0 ≡ found key (key r) (take n E) = search rules in
-    let refused = taken_since key E n r c.in-default.field-0 hit in
+    let hit : Ok c.in_default.field-0 ≡ found key (key r) (take n E) = search rules in
+    let refused = taken_since key E n r c.in_default.field-0 hit in
     record { answer = refused; after = not_inserted key E n r refused; law = λ up. put_law key (take n E) up r }
 
 pub returns : goal.returns
@@ -31,6 +31,6 @@ returns g c =
     let miss : Err c.in-Err.at ≡ found key (key r) (take n E) = search rules in
     record {
       answer = insertable_since key E n r c.in-Err.at (omega arith) miss;
-      after = after_insert_since key E n r c.in-Err.at (omega arith) miss c.insert-at.new.places c.insert-at.ensures;
+      after = after_insert_since key E n r c.in-Err.at (omega arith) miss c.insert_at.new.places c.insert_at.ensures;
       law = λ up. put_law key (take n E) up r;
     }

@@ -12,14 +12,14 @@ returns-then-count-places g c =
       law = λ up. out_law g.R.Keyed.key (take c.args.count c.args.places.now) up c.args.key;
     }
 
-pub returns-in-default : goal.returns-in-default
-returns-in-default g c =
+pub returns-in_default : goal.returns-in_default
+returns-in_default g c =
     let key = g.R.Keyed.key in
     let E = c.args.places.now in
     let n = c.args.count in
     let k = c.args.key in
-    let miss : Err c.in-default.field-0 ≡ found key k (take n E) = search rules in
-    let refused = absent_since key E n k c.in-default.field-0 miss in
+    let miss : Err c.in_default.field-0 ≡ found key k (take n E) = search rules in
+    let refused = absent_since key E n k c.in_default.field-0 miss in
     record { answer = refused; after = not_removed key E n k refused; law = λ up. out_law key (take n E) up k }
 
 pub returns : goal.returns
@@ -31,6 +31,6 @@ returns g c =
     let hit : Ok c.in-Ok.at ≡ found key k (take n E) = search rules in
     record {
       answer = held_since key E n k c.in-Ok.at (omega arith) hit;
-      after = after_remove_since key E n k c.in-Ok.at (omega arith) hit c.remove-at.new.places c.remove-at.ensures;
+      after = after_remove_since key E n k c.in-Ok.at (omega arith) hit c.remove_at.new.places c.remove_at.ensures;
       law = λ up. out_law key (take n E) up k;
     }

@@ -7,12 +7,13 @@ use Rattle.amendments.proofs.EntryPlaces.{altered, inserted_entries, entries_uni
 use Rattle.amendments.proofs.EntryAnswers.{amend_held, amend_room, amend_full}
 use Rattle.amendments.proofs.layer.AmendmentLayer.amend.Goals as goal
 
-pub invariant-of-self : goal.invariant-of-self
-invariant-of-self g c =
+pub invariant_of-self : goal.invariant_of-self
+invariant_of-self g c =
     let s = c.args.self.now in
     let r : Amendment = record { day = c.args.day; code = c.args.code } in
     let e = altered s.entries s.count r c.in-Ok.at (omega arith) c.in-Ok.ensures.is in
-    (search rules, order_with (take s.count s.entries) _ r e s.risen s.small c.requires)
+    let o = order_with (take s.count s.entries) _ r e s.risen s.small c.requires in
+    record { within = search rules; risen = o.0; small = o.1.0 }
 
 pub returns-in-Ok : goal.returns-in-Ok
 returns-in-Ok g c =
@@ -38,17 +39,18 @@ returns-then-not-insert g c =
     record {
       answer =
           amend_full under s.entries s.count s.layer.number (omega arith) (omega arith) r (omega arith)
-          (when_absent day_of (day_of r) c.in-default.field-0 es c.in-default.ensures.is).0 told.answer;
+          (when_absent day_of (day_of r) c.in_default.field-0 es c.in_default.ensures.is).0 told.answer;
       after = ap (λ l. layer_meaning under l s.layer.number) (entries_uninserted s.entries s.count c.insert.new.places r told.after told.answer);
     }
 
-pub invariant-of-self-2 : goal.invariant-of-self-2
-invariant-of-self-2 g c =
+pub invariant_of-self-2 : goal.invariant_of-self-2
+invariant_of-self-2 g c =
     let s = c.args.self.now in
     let r : Amendment = record { day = c.args.day; code = c.args.code } in
     let told = c.if-not-insert.ensures in
     let e = inserted_entries s.entries s.count c.insert.new.places r told.after told.answer in
-    (search rules, order_with (take s.count s.entries) _ r e s.risen s.small c.requires)
+    let o = order_with (take s.count s.entries) _ r e s.risen s.small c.requires in
+    record { within = search rules; risen = o.0; small = o.1.0 }
 
 pub returns : goal.returns
 returns g c =

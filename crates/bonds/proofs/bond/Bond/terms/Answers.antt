@@ -6,13 +6,22 @@ use Rattle.bonds.specs.Limits.{limits}
 use Rattle.bonds.proofs.SameTerms.{respelled, terms_are, whole_bond}
 use Rattle.bonds.proofs.bond.Bond.terms.Goals as goal
 
-pub invariant-of-result : goal.invariant-of-result
-invariant-of-result c =
+pub invariant_of-result : goal.invariant_of-result
+invariant_of-result c =
     let b = c.args.self.now in
     let h : in_range b ≡ true = cc in
     let k : in_order b ≡ true = cc in
     let f = limits b h k in
-    (f.early, (f.rising, (f.late, (f.some, (f.year, (f.lagged, (f.faced, (f.rated, tt))))))))
+    record {
+      early = f.early;
+      rising = f.rising;
+      late = f.late;
+      some = f.some;
+      year = f.year;
+      lagged = f.lagged;
+      faced = f.faced;
+      rated = f.rated;
+    }
 
 pub returns : goal.returns
 returns c =

@@ -3,9 +3,9 @@ use Rattle.bonds.proofs.Shifting.{absent, present}
 use Rattle.bonds.proofs.Rolling.{stops, passes, not_more}
 use Rattle.bonds.proofs.terms.Terms.regular_count.Goals as goal
 
-pub returns-in-default : goal.returns-in-default
-returns-in-default c =
-    omega (arith, stops c.args.self.now c.loop-n.n c.loop-n.invariant.1 (absent _ _ c.in-default.ensures))
+pub returns-in_default : goal.returns-in_default
+returns-in_default c =
+    omega (arith, stops c.args.self.now c.loop-n.n c.loop-n.invariant.1 (absent _ _ c.in_default.ensures))
 
 pub loop-n-preserved : goal.loop-n-preserved
 loop-n-preserved c =

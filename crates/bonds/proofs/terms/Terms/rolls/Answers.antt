@@ -3,8 +3,8 @@ use Rattle.std.proofs.lemmas.Bool.Decides.{nat_tests}
 use Rattle.bonds.proofs.Rolling.{rolls_length, rising, spanning, complete}
 use Rattle.bonds.proofs.terms.Terms.rolls.Goals as goal
 
-pub returns-then-inner-gt-MOST-INNER : goal.returns-then-inner-gt-MOST-INNER
-returns-then-inner-gt-MOST-INNER c =
+pub returns-then-inner-gt-MOST_INNER : goal.returns-then-inner-gt-MOST_INNER
+returns-then-inner-gt-MOST_INNER c =
     let t = c.args.self in
     record { is = grind (arith, nat_tests, rolls_length t); rising = rising t; spanning = spanning t; complete = complete t }
 

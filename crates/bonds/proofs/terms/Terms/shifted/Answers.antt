@@ -4,4 +4,4 @@ use Rattle.bonds.proofs.Shifting.{shift_is}
 use Rattle.bonds.proofs.terms.Terms.shifted.Goals as goal
 
 pub returns : goal.returns
-returns c = grind (arith, nat_tests, shift_is c.args.self.now c.args.k c.in-ok-month.month.index)
+returns c = grind (arith, nat_tests, shift_is c.args.self.now c.args.k c.in_ok-month.month.index)

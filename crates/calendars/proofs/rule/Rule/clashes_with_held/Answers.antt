@@ -6,18 +6,18 @@ use Rattle.calendars.proofs.rule.Rule.clashes_with_held.Goals as goal
 pub loop-held-init : goal.loop-held-init
 loop-held-init g c = refl
 
-pub returns-then-clashes-with : goal.returns-then-clashes-with
-returns-then-clashes-with g c =
+pub returns-then-clashes_with : goal.returns-then-clashes_with
+returns-then-clashes_with g c =
     let test : g.row.E.Denot → Bool = λ e. g.E.Entry.clashes e c.args.new.now in
     sym (any_here test c.held-entries.result.now c.loop-held.held-index c.loop-held.invariant c.held-item.result (omega arith)
-    (ap test (sym c.held-item.is) ∙ sym c.if-clashes-with.ensures))
+    (ap test (sym c.held-item.is) ∙ sym c.if-clashes_with.ensures))
     ∙ ap (any test) c.held-entries.ensures.is
 
 pub loop-held-preserved : goal.loop-held-preserved
 loop-held-preserved g c =
     let test : g.row.E.Denot → Bool = λ e. g.E.Entry.clashes e c.args.new.now in
     any_next test c.held-entries.result.now c.loop-held.held-index c.loop-held.invariant c.held-item.result (omega arith)
-    (ap test (sym c.held-item.is) ∙ sym c.if-clashes-with.ensures)
+    (ap test (sym c.held-item.is) ∙ sym c.if-clashes_with.ensures)
 
 pub returns : goal.returns
 returns g c =

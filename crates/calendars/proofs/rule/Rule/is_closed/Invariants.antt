@@ -2,6 +2,6 @@ use Rattle.std.proofs.Common.{◌≡◌, drop}
 use Rattle.calendars.specs.Rules.{any}
 use Rattle.calendars.proofs.rule.Rule.is_closed.Given as goal
 
-abbrev pub invariant_loop_held : goal.invariant-loop-held
-invariant_loop_held g l =
+abbrev pub invariant-loop-held : goal.invariant-loop-held
+invariant-loop-held g l =
     any (λ e. g.E.Entry.closes e l.day.0) (drop l.held-index l.entries) ≡ any (λ e. g.E.Entry.closes e l.day.0) l.entries

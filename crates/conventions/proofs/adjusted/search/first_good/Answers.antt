@@ -12,21 +12,21 @@ range g x u k d =
     let law = g.met.C.Convention in
     not_far (g.C.Convention.tries x) g.C.Convention.reach u k d (law.small x) (law.near x u d)
 
-pub invariant-of-result : goal.invariant-of-result
-invariant-of-result g c =
-    (range g c.args.convention.now c.args.u.0 c.loop-k.k c.in-ok-day.day.0 c.in-ok-day.ensures, tt)
+pub invariant_of-result : goal.invariant_of-result
+invariant_of-result g c =
+    record { within = range g c.args.convention.now c.args.u.0 c.loop-k.k c.in_ok-day.day.0 c.in_ok-day.ensures }
 
-pub returns-then-is-good-day : goal.returns-then-is-good-day
-returns-then-is-good-day g c =
+pub returns-then-is_good_day : goal.returns-then-is_good_day
+returns-then-is_good_day g c =
     found_here (λ d. good (g.K.Calendar.codes c.args.calendar.now d)) (g.C.Convention.tries c.args.convention.now) c.args.u.0 c.loop-k.k
-    c.in-ok-day.day.0 c.in-ok-day.ensures c.loop-k.invariant (sym (within c.in-ok-day.day.0 _ _ (omega (arith, range g c.args.convention.now c.args.u.0 c.loop-k.k c.in-ok-day.day.0 c.in-ok-day.ensures)) c.is-good-day.ensures) ∙ c.if-is-good-day.true)
+    c.in_ok-day.day.0 c.in_ok-day.ensures c.loop-k.invariant (sym (within c.in_ok-day.day.0 _ _ (omega (arith, range g c.args.convention.now c.args.u.0 c.loop-k.k c.in_ok-day.day.0 c.in_ok-day.ensures)) c.is_good_day.ensures) ∙ c.if-is_good_day.true)
 
 pub loop-k-preserved : goal.loop-k-preserved
 loop-k-preserved g c =
     found_later (λ d. good (g.K.Calendar.codes c.args.calendar.now d)) (g.C.Convention.tries c.args.convention.now) c.args.u.0 c.loop-k.k
-    c.in-ok-day.day.0 c.in-ok-day.ensures c.loop-k.invariant (sym (within c.in-ok-day.day.0 _ _ (omega (arith, range g c.args.convention.now c.args.u.0 c.loop-k.k c.in-ok-day.day.0 c.in-ok-day.ensures)) c.is-good-day.ensures) ∙ c.if-is-good-day.false)
+    c.in_ok-day.day.0 c.in_ok-day.ensures c.loop-k.invariant (sym (within c.in_ok-day.day.0 _ _ (omega (arith, range g c.args.convention.now c.args.u.0 c.loop-k.k c.in_ok-day.day.0 c.in_ok-day.ensures)) c.is_good_day.ensures) ∙ c.if-is_good_day.false)
 
 pub returns : goal.returns
 returns g c =
     found_none (λ d. good (g.K.Calendar.codes c.args.calendar.now d)) (g.C.Convention.tries c.args.convention.now) c.args.u.0 c.loop-k.k
-    c.in-ok-count.count c.in-ok-count.ensures (omega arith) c.loop-k.invariant
+    c.in_ok-count.count c.in_ok-count.ensures (omega arith) c.loop-k.invariant

@@ -5,7 +5,7 @@ use Rattle.dates.proofs.Asked.{asked_is}
 use Rattle.day_cache.specs.Nibbles.{kept_code}
 use Rattle.day_cache.proofs.Afresh.{unrefused, fill_more, fill_all}
 use Rattle.day_cache.proofs.day_cache.DayCache.new.Goals as goal
-use Rattle.day_cache.proofs.day_cache.DayCache.new.Goals.{in-Ok, in-default}
+use Rattle.day_cache.proofs.day_cache.DayCache.new.Goals.{in-Ok, in_default}
 
 pub loop-k-preserved : goal.loop-k-preserved
 loop-k-preserved g c =
@@ -15,10 +15,10 @@ loop-k-preserved g c =
     elim c.match-code.branch [
       | in-Ok w ↦ (
         omega (arith, ap length w.words-is),
-        fill_more c.loop-k.words c.match-code.words start k w.in-Ok.code low c.loop-k.invariant.1 (ap kept_code w.words-is ∙ w.keep-code.ensures)
+        fill_more c.loop-k.words c.match-code.words start k w.in-Ok.code low c.loop-k.invariant.1 (ap kept_code w.words-is ∙ w.keep_code.ensures)
             (asked_is (start + k) w.in-Ok.code (low (start + k)) w.in-Ok.ensures),
       )
-      | in-default w ↦ absurd (unrefused (start + k) (calendar_refusal w.in-default.field-0) (low (start + k)) (omega arith) w.in-default.ensures)
+      | in_default w ↦ absurd (unrefused (start + k) (calendar_refusal w.in_default.field-0) (low (start + k)) (omega arith) w.in_default.ensures)
     ]
 
 pub returns : goal.returns

@@ -8,9 +8,9 @@ returns-then-k-lt-DAYS g c =
     let s = c.args.self.now in
     let d = c.args.day.0 in
     let low = g.P.Calendar.codes s.lower in
-    let code = c.in-ok-code.code in
+    let code = c.in_ok-code.code in
     record {
       answer = refl;
       lower = refl;
-      codes = refreshed s.words c.keep-code.new.words s.start d code low c.keep-code.ensures (omega arith) (omega arith) (asked_is d code (low d) c.in-ok-code.ensures);
+      codes = refreshed s.words c.keep_code.new.words s.start d code low c.keep_code.ensures (omega arith) (omega arith) (asked_is d code (low d) c.in_ok-code.ensures);
     }

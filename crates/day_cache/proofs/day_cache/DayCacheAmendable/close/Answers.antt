@@ -13,7 +13,7 @@ returns g c =
     let rest = g.P.Amendable.rest in
     let r = rest s.lower in
     let d = c.args.day.0 in
-    let made = c.in-ok-close.ensures in
+    let made = c.in_ok-close.ensures in
     let read = c.refresh.ensures in
     let both =
     through codes rest s.lower c.close.new.self t.lower s.words s.start d (cache_codes t.words t.start (codes t.lower)) (λ m. after_close m d) (amend_answer r d) r.number _ (λ _. refl) made.answer made.after read.lower read.codes in

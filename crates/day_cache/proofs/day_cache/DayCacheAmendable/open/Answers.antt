@@ -13,7 +13,7 @@ returns g c =
     let rest = g.P.Amendable.rest in
     let r = rest s.lower in
     let d = c.args.day.0 in
-    let made = c.in-ok-open.ensures in
+    let made = c.in_ok-open.ensures in
     let read = c.refresh.ensures in
     let both =
     through codes rest s.lower c.open.new.self t.lower s.words s.start d (cache_codes t.words t.start (codes t.lower)) (λ m. after_open m d) (amend_answer r d) 0 _ (λ _. refl) made.answer made.after read.lower read.codes in

@@ -4,6 +4,6 @@ use Rattle.generation.specs.Retrying.{inside}
 use Rattle.generation.specs.Views.{seen_footing}
 use Rattle.generation.proofs.footing.Footing.holds_one.Given as goal
 
-abbrev pub invariant_loop_day : goal.invariant-loop-day
-invariant_loop_day l =
+abbrev pub invariant-loop-day : goal.invariant-loop-day
+invariant-loop-day l =
     any (λ d. inside (seen_footing l.self) d.0) (drop l.day-index l.days) ≡ any (λ d. inside (seen_footing l.self) d.0) l.days

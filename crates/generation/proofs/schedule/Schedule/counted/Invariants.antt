@@ -5,8 +5,8 @@ use Rattle.generation.specs.Schedules.{seen_schedule}
 use Rattle.generation.specs.Views.{number_of}
 use Rattle.generation.proofs.schedule.Schedule.counted.Given as goal
 
-abbrev pub invariant_loop_i : goal.invariant-loop-i
-invariant_loop_i g l =
+abbrev pub invariant-loop-i : goal.invariant-loop-i
+invariant-loop-i g l =
     (l.counted + how_many (counts (g.C.Convention.tries l.convention) (map number_of l.days) (seen_schedule l.self)) (upward (length (seen_schedule l.self).days - l.i) l.i)
     ≡ counted_in (g.C.Convention.tries l.convention) (map number_of l.days) (seen_schedule l.self))
     × (l.counted ≤ l.i)

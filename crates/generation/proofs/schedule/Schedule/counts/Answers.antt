@@ -8,8 +8,8 @@ use Rattle.generation.proofs.ScheduleLengths.{counted, seen_at, roll_there, neve
 use Rattle.generation.proofs.Tried.{footing_is}
 use Rattle.generation.proofs.schedule.Schedule.counts.Goals as goal
 
-pub returns-in-default : goal.returns-in-default
-returns-in-default g c = absurd (never_absent c.args.self.now c.args.i c.requires c.in-default.ensures.is)
+pub returns-in_default : goal.returns-in_default
+returns-in_default g c = absurd (never_absent c.args.self.now c.args.i c.requires c.in_default.ensures.is)
 
 pub returns-in-Ok : goal.returns-in-Ok
 unfolding counts
@@ -19,6 +19,6 @@ returns-in-Ok g c =
     let n = counted s in
     let u : c.in-Some.u.0 ≡ get_or (rolls s.rolls.terms) c.args.i 0 = roll_there s c.args.i c.in-Some.u c.requires c.in-Some.ensures.is in
     let r : seen_roll (get_or s.days c.args.i c.index-self-i.result) ≡ roll_in (seen_schedule s) c.args.i = sym (seen_at s c.args.i c.index-self-i.result _ (omega (arith, c.requires))) in
-    c.holds-one.ensures
+    c.holds_one.ensures
     ∙ ap (λ (x : Span). holds_one x (map number_of c.args.days.now))
     (footing_is tries c.in-Some.u.0 _ _ c.in-Ok.ensures.is ∙ (λ i. footing (u i) (tries (u i)) (r i)))

@@ -8,8 +8,8 @@ use Rattle.generation.specs.Views.{seen_roll}
 use Rattle.generation.proofs.Granted.{prefixed}
 use Rattle.generation.proofs.schedule.Schedule.generate.Given as goal
 
-abbrev pub invariant_loop_i : goal.invariant-loop-i
-invariant_loop_i g l =
+abbrev pub invariant-loop-i : goal.invariant-loop-i
+invariant-loop-i g l =
     (prefixed (map seen_roll (take l.i l.days))
     (each_granted (bond_roll (λ d. good (g.K.Calendar.codes l.calendar d)) (g.C.Convention.tries l.convention) l.rolls.terms) (upward (l.count - l.i) l.i))
     ≡ all_rolls (λ d. good (g.K.Calendar.codes l.calendar d)) (g.C.Convention.tries l.convention) l.rolls.terms)

@@ -21,20 +21,20 @@ loop-i-init g c =
     let f : ℕ → Result RollDays Refusal = retried_roll ok tries (map number_of c.args.days.now) (seen_schedule c.args.self.now) in
     (prefixed_start f _ _ refl, c.args.self.now.size)
 
-pub returns-in-err-anew : goal.returns-in-err-anew
-returns-in-err-anew g c =
+pub returns-in_err-anew : goal.returns-in_err-anew
+returns-in_err-anew g c =
     let ok : ℕ → Bool = λ d. good (g.K.Calendar.codes c.args.calendar.now d) in
     let tries : ℕ → List ℕ = g.C.Convention.tries c.args.convention.now in
     let ds = map number_of c.args.days.now in
     let x = seen_schedule c.args.self.now in
     let f : ℕ → Result RollDays Refusal = retried_roll ok tries ds x in
-    let p = err_from_is_err_and c.from-residual.result c.from-residual.ensures.1 in
+    let p = err_from_is_err_and c.from_residual.result c.from_residual.ensures.1 in
     record {
       is =
           rw (p.1, p.2)
           (ap (scheduled x.terms)
           (refused_here f (length x.days) c.loop-i.i (map seen_roll (take c.loop-i.i c.loop-i.anew)) _ c.loop-i.invariant.0 _
-          (omega (arith, c.count-i-end.ensures.is)) (sym c.in-err-anew.ensures)));
+          (omega (arith, c.count-i-end.ensures.is)) (sym c.in_err-anew.ensures)));
       suffices = retry_suffices ok tries ds x;
     }
 
@@ -46,11 +46,11 @@ loop-i-preserved g c =
     let f : ℕ → Result RollDays Refusal = retried_roll ok tries (map number_of c.args.days.now) x in
     let i = c.loop-i.i in
     let anew = c.loop-i.anew in
-    let new : map seen_roll (take i anew) ++ (seen_roll c.in-ok-anew.field-0 ∷ []) ≡ map seen_roll (take (i + 1) (set anew i c.in-ok-anew.field-0)) =
-    sym (ap (map seen_roll) (take_more_set anew i c.in-ok-anew.field-0 (omega (arith, c.loop-i.invariant.1))) ∙ map_push seen_roll (take i anew) c.in-ok-anew.field-0) in (
+    let new : map seen_roll (take i anew) ++ (seen_roll c.in_ok-anew.field-0 ∷ []) ≡ map seen_roll (take (i + 1) (set anew i c.in_ok-anew.field-0)) =
+    sym (ap (map seen_roll) (take_more_set anew i c.in_ok-anew.field-0 (omega (arith, c.loop-i.invariant.1))) ∙ map_push seen_roll (take i anew) c.in_ok-anew.field-0) in (
       ap (λ (done : List RollDays). prefixed done (each_granted f (upward (length x.days - (i + 1)) (i + 1)))) (sym new)
-          ∙ granted_more f (length x.days) i (map seen_roll (take i anew)) _ c.loop-i.invariant.0 _ (omega (arith, c.count-i-end.ensures.is)) (sym c.in-ok-anew.ensures),
-      length-set anew i c.in-ok-anew.field-0 ∙ c.loop-i.invariant.1,
+          ∙ granted_more f (length x.days) i (map seen_roll (take i anew)) _ c.loop-i.invariant.0 _ (omega (arith, c.count-i-end.ensures.is)) (sym c.in_ok-anew.ensures),
+      length-set anew i c.in_ok-anew.field-0 ∙ c.loop-i.invariant.1,
     )
 
 pub returns : goal.returns

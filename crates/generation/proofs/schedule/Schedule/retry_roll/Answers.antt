@@ -6,14 +6,14 @@ use Rattle.generation.proofs.ScheduleLengths.{counted, seen_at}
 use Rattle.generation.proofs.Retried.{when_counted, when_not_counted}
 use Rattle.generation.proofs.schedule.Schedule.retry_roll.Goals as goal
 
-pub roll-of-bond-requires : goal.roll-of-bond-requires
-roll-of-bond-requires g c = let n = counted c.args.self.now in omega (arith, c.requires)
+pub roll_of_bond-requires : goal.roll_of_bond-requires
+roll_of_bond-requires g c = let n = counted c.args.self.now in omega (arith, c.requires)
 
 pub returns-then-counts : goal.returns-then-counts
 returns-then-counts g c =
     let ok : ℕ → Bool = λ d. good (g.K.Calendar.codes c.args.calendar.now d) in
     let tries : ℕ → List ℕ = g.C.Convention.tries c.args.convention.now in
-    c.roll-of-bond.ensures
+    c.roll_of_bond.ensures
     ∙ when_counted ok tries (map number_of c.args.days.now) (seen_schedule c.args.self.now) c.args.i (sym c.counts.ensures ∙ c.if-counts.true)
 
 pub returns : goal.returns

@@ -15,36 +15,35 @@ returns-then-not-insert g c =
     let s = c.args.self.now in
     let m : Meaning = meaning (g.P.Calendar.codes s.calendar) (g.P.Amendable.rest s.calendar) in
     let tries : ℕ → List ℕ = g.C.Convention.tries s.convention in
-    let x = c.in-ok-rolls.rolls.terms in
-    let own = its_terms x (all_rolls (good_days m) tries x) (seen_schedule c.in-ok-schedule.schedule) (sym c.in-ok-schedule.ensures.is) in
-    let fits = admitted_fits s.places s.count c.in-ok-schedule.schedule x _ s.within.1 s.within.0 s.full c.in-ok-rolls.ensures own in
+    let x = c.in_ok-rolls.rolls.terms in
+    let own = its_terms x (all_rolls (good_days m) tries x) (seen_schedule c.in_ok-schedule.schedule) (sym c.in_ok-schedule.ensures.is) in
+    let fits = admitted_fits s.places s.count c.in_ok-schedule.schedule x _ s.within.1 s.within.0 s.full c.in_ok-rolls.ensures own in
     absurd (false≢true (sym c.if-not-insert.true ∙ c.insert.ensures.answer ∙ fits))
 
-pub invariant-of-self-2 : goal.invariant-of-self-2
-invariant-of-self-2 g c =
+pub invariant_of-self-2 : goal.invariant_of-self-2
+invariant_of-self-2 g c =
     let s = c.args.self.now in
-    let x = c.in-ok-schedule.schedule in
+    let x = c.in_ok-schedule.schedule in
     let fits : insertable place_number s.count (Live x) s.places ≡ true = sym c.insert.ensures.answer ∙ c.if-not-insert.false in
-    let room = ltb-true s.count (length s.places) (and_parts (ltb s.count (length s.places)) _ fits).0 in (
-      (omega (arith, s.within.1), omega (arith, c.insert.auto.places, s.within.1)),
-      (
-        still_live s.places c.insert.new.places s.count x s.full fits c.insert.ensures.after,
-        (still_rising s.places c.insert.new.places s.count x s.full fits c.insert.ensures.after s.risen, tt),
-      ),
-    )
+    let room = ltb-true s.count (length s.places) (and_parts (ltb s.count (length s.places)) _ fits).0 in
+    record {
+      within = (omega (arith, s.within.1), omega (arith, c.insert.auto.places, s.within.1));
+      full = still_live s.places c.insert.new.places s.count x s.full fits c.insert.ensures.after;
+      risen = still_rising s.places c.insert.new.places s.count x s.full fits c.insert.ensures.after s.risen;
+    }
 
 pub returns : goal.returns
 returns g c =
     let s = c.args.self.now in
     let m : Meaning = meaning (g.P.Calendar.codes s.calendar) (g.P.Amendable.rest s.calendar) in
     let tries : ℕ → List ℕ = g.C.Convention.tries s.convention in
-    let x = c.in-ok-schedule.schedule in
+    let x = c.in_ok-schedule.schedule in
     let fits : insertable place_number s.count (Live x) s.places ≡ true = sym c.insert.ensures.answer ∙ c.if-not-insert.false in
     record {
       step =
           (λ i. record { sheet = view m (kept (take (s.count + 1) c.insert.new.places)); answer = Ok (c.count.ensures.is i) })
-          ∙ entered_fresh s.places c.insert.new.places s.count x s.full fits c.insert.ensures.after tries m _ c.in-ok-schedule.ensures.is
-          c.args.bond _ c.in-ok-terms.ensures.is c.in-ok-rolls.ensures;
+          ∙ entered_fresh s.places c.insert.new.places s.count x s.full fits c.insert.ensures.after tries m _ c.in_ok-schedule.ensures.is
+          c.args.bond _ c.in_ok-terms.ensures.is c.in_ok-rolls.ensures;
       convention = refl;
-      fresh = still_sound s.places c.insert.new.places s.count x s.full fits c.insert.ensures.after tries m _ c.in-ok-schedule.ensures.is;
+      fresh = still_sound s.places c.insert.new.places s.count x s.full fits c.insert.ensures.after tries m _ c.in_ok-schedule.ensures.is;
     }

@@ -8,5 +8,5 @@ use Rattle.kept_sheet.proofs.sheet.Sheet.is_live.Goals as goal
 pub returns : goal.returns
 returns g c =
     let s = c.args.self.now in
-    c.is-ok.ensures.value ∙ ap is_ok c.find.ensures.is ∙ found_is_ok place_number c.args.number c.live.result.now
+    c.is_ok.ensures.value ∙ ap is_ok c.find.ensures.is ∙ found_is_ok place_number c.args.number c.live.result.now
     ∙ ap (has place_number c.args.number) c.live.ensures.is ∙ has_bond c.args.number _ s.full

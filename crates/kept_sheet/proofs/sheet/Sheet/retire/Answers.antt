@@ -21,16 +21,15 @@ returns-then-not-remove g c =
       fresh = λ sound. rw same sound;
     }
 
-pub invariant-of-self-2 : goal.invariant-of-self-2
-invariant-of-self-2 g c =
+pub invariant_of-self-2 : goal.invariant_of-self-2
+invariant_of-self-2 g c =
     let s = c.args.self.now in
-    let hit : held place_number s.count c.args.number s.places ≡ true = sym c.remove.ensures.answer ∙ c.if-not-remove.false in (
-      (omega (arith, s.within.0), omega (arith, c.remove.auto.places, s.within.1)),
-      (
-        live_still s.places c.remove.new.places s.count c.args.number s.full c.remove.ensures.after hit,
-        (rising_still s.places c.remove.new.places s.count c.args.number s.full c.remove.ensures.after hit s.risen, tt),
-      ),
-    )
+    let hit : held place_number s.count c.args.number s.places ≡ true = sym c.remove.ensures.answer ∙ c.if-not-remove.false in
+    record {
+      within = (omega (arith, s.within.0), omega (arith, c.remove.auto.places, s.within.1));
+      full = live_still s.places c.remove.new.places s.count c.args.number s.full c.remove.ensures.after hit;
+      risen = rising_still s.places c.remove.new.places s.count c.args.number s.full c.remove.ensures.after hit s.risen;
+    }
 
 pub returns : goal.returns
 returns g c =

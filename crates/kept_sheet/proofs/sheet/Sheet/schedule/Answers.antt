@@ -7,12 +7,12 @@ use Rattle.kept_sheet.specs.Readings.{schedule_numbered}
 use Rattle.kept_sheet.proofs.NumberedSchedules.{none_numbered, one_numbered, none_free}
 use Rattle.kept_sheet.proofs.sheet.Sheet.schedule.Goals as goal
 
-pub returns-in-default : goal.returns-in-default
-returns-in-default g c =
+pub returns-in_default : goal.returns-in_default
+returns-in_default g c =
     let s = c.args.self.now in
     let ps = c.live-live.result.now in
     let same = c.live-live.ensures.is in
-    let w = when_absent place_number c.args.number _ ps c.in-default.ensures.is in
+    let w = when_absent place_number c.args.number _ ps c.in_default.ensures.is in
     sym (none_numbered c.args.number 0 ps (ap all_live same ∙ s.full) (ap (rising place_number 0) same ∙ s.risen) w.0)
     ∙ ap (λ (xs : List Place). schedule_numbered c.args.number (kept xs)) same
 

@@ -21,12 +21,13 @@ returns-then-not-remove g c =
           ∙ ap (λ t. if_granted t (restored m d) m) a;
     }
 
-pub invariant-of-self-2 : goal.invariant-of-self-2
-invariant-of-self-2 g c =
+pub invariant_of-self-2 : goal.invariant_of-self-2
+invariant_of-self-2 g c =
     let s = c.args.self.now in
     let told = c.if-not-remove.ensures in
     let e = removed_entries s.entries s.count c.remove.new.places c.args.day.0 told.after told.answer in
-    (search rules, order_without (take s.count s.entries) _ c.args.day.0 s.risen e s.small)
+    let o = order_without (take s.count s.entries) _ c.args.day.0 s.risen e s.small in
+    record { within = search rules; risen = o.0; small = o.1.0 }
 
 pub returns : goal.returns
 returns g c =

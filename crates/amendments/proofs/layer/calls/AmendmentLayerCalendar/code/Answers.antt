@@ -15,7 +15,7 @@ returns-in-Ok g c =
     let at = c.in-Ok.at in
     let under = g.K.Calendar.codes s.under d in
     let w = when_found day_of d at es c.in-Ok.ensures.is in
-    answered d _ _ (asked_low d c.in-ok-under.under under c.in-ok-under.ensures)
+    answered d _ _ (asked_low d c.in_ok-under.under under c.in_ok-under.ensures)
     (ap (λ e. e.code) (sym (get_or-take s.count s.entries at no_entry c.in-Ok.ensures.bound))
     ∙ ap (λ k. (get_or es k no_entry).code) w.1 ∙ code_held es under d no_entry w.0)
 
@@ -25,7 +25,7 @@ returns-in-Err g c =
     let d = c.args.day.0 in
     let es = take s.count s.entries in
     let under = g.K.Calendar.codes s.under d in
-    let told = c.in-ok-under.ensures in
-    answered d _ _ (asked_low d c.in-ok-under.under under told)
-    (asked_is d c.in-ok-under.under under told
+    let told = c.in_ok-under.ensures in
+    answered d _ _ (asked_low d c.in_ok-under.under under told)
+    (asked_is d c.in_ok-under.under under told
     ∙ code_absent 0 es under d s.risen (when_absent day_of d c.in-Err.field-0 es c.in-Err.ensures.is).0)
