@@ -44,10 +44,6 @@ pub record Altered : Type 0 where
   pub closes_old : ℕ
   pub closed_new : ℕ
 
--- no payment yet
-abbrev pub no_payment : Due
-no_payment = record { date = 0; fixing = None; days = 0; amount = 0 }
-
 -- payment k of a bond, under the codes before and after
 abbrev pub alteration : (ℕ → ℕ) → (ℕ → ℕ) → ℕ → ℕ → Due × Due → Altered
 alteration before after bond k p =
@@ -87,7 +83,3 @@ seen_change c =
       closes_old = c.closes_old;
       closed_new = c.closed_new;
     }
-
--- no change yet
-abbrev pub no_change : Altered
-no_change = record { bond = 0; payment = 0; old = no_payment; new = no_payment; closes_old = 0; closed_new = 0 }

@@ -19,7 +19,7 @@ fn same_payment(a: Payment, b: Payment) -> bool
         (Some(x), Some(y)) => x.0 == y.0,
         _ => false,
     };
-    a.date.0 == b.date.0 && same_fixing && a.days == b.days && a.amount == b.amount
+    a.date.day().0 == b.date.day().0 && same_fixing && a.days == b.days && a.amount == b.amount
 }
 
 /// Payment k as it was and as it becomes, if both schedules have one and it altered.
@@ -71,7 +71,6 @@ fn change_of<K: Calendar, T: Calendar>(
     was: Payment,
     becomes: Payment,
 ) -> Change
-    requires known { (was.date.0 ≤ 109572) × (becomes.date.0 ≤ 109572) }
     ensures { seen_change result ≡ alteration (K.Calendar.codes before.now) (T.Calendar.codes after.now) bond payment (seen_pair (was, becomes)) }
 {
     Change {
@@ -79,8 +78,8 @@ fn change_of<K: Calendar, T: Calendar>(
         payment,
         old: was,
         new: becomes,
-        closes_old: code_of(after, was.date),
-        closed_new: code_of(before, becomes.date),
+        closes_old: code_of(after, was.date.day()),
+        closed_new: code_of(before, becomes.date.day()),
     }
 }
 
@@ -92,8 +91,8 @@ pub fn write_changes<K: Calendar, T: Calendar>(
     new: &Schedule,
     list: &mut [Change],
 ) -> Option<usize>
-    ensures answer { result ≡ written_count (changes_in (K.Calendar.codes before.now) (T.Calendar.codes after.now) (seen_schedule old.now) (seen_schedule new.now)) (map seen_change list.entry.now) }
-    ensures list { map seen_change list.exit.now ≡ written (changes_in (K.Calendar.codes before.now) (T.Calendar.codes after.now) (seen_schedule old.now) (seen_schedule new.now)) (map seen_change list.entry.now) }
+    ensures answer { result ≡ written_count (changes_in (K.Calendar.codes before.now) (T.Calendar.codes after.now) (seen_schedule old.now) (seen_schedule new.now)) (map seen_change list.old) }
+    ensures list { map seen_change list.new ≡ written (changes_in (K.Calendar.codes before.now) (T.Calendar.codes after.now) (seen_schedule old.now) (seen_schedule new.now)) (map seen_change list.old) }
     ensures law { ListedExactly (K.Calendar.codes before.now) (T.Calendar.codes after.now) (seen_schedule old.now) (seen_schedule new.now) }
 {
     if count_changes(old, new) > list.len() {

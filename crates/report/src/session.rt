@@ -4,8 +4,7 @@ use conventions::{Convention, ModifiedFollowing};
 use faults::{Fault, TextFault};
 use notation::{Line, Lines};
 use sheet::{Answer, Call, Sheet};
-use std::alloc::Global;
-use std::fmt;
+use std::alloc::{AllocError, Global};
 
 /// The sheet of the program.
 type ProgramSheet = Sheet<Target, ModifiedFollowing>;
@@ -29,20 +28,20 @@ fn line_number(line: &Line<'_>) -> usize {
     }
 }
 
-fn refuse(out: &mut String, fault: Fault, line: usize) -> fmt::Result {
+fn refuse(out: &mut String, fault: Fault, line: usize) -> Result<(), AllocError> {
     let number = fault.number();
     writeln!(out, "no {number} {line}")
 }
 
 /// Writes what a call answered.
-fn answered(out: &mut String, answer: Answer) -> fmt::Result {
+fn answered(out: &mut String, answer: Answer) -> Result<(), AllocError> {
     match answer {
         Answer::Entered(number, rolls) => writeln!(out, "entered {number} {rolls}"),
     }
 }
 
 /// Makes a call, and writes what happened.
-fn run_call(out: &mut String, sheet: &mut ProgramSheet, call: Call, line: usize) -> fmt::Result {
+fn run_call(out: &mut String, sheet: &mut ProgramSheet, call: Call, line: usize) -> Result<(), AllocError> {
     match sheet.call(call) {
         Ok(answer) => answered(out, answer),
         Err(fault) => refuse(out, fault, line),
@@ -50,7 +49,7 @@ fn run_call(out: &mut String, sheet: &mut ProgramSheet, call: Call, line: usize)
 }
 
 /// Reads a line and does what it asks for; a remark asks for nothing.
-fn run_line(out: &mut String, sheet: &mut ProgramSheet, line: Line<'_>) -> fmt::Result {
+fn run_line(out: &mut String, sheet: &mut ProgramSheet, line: Line<'_>) -> Result<(), AllocError> {
     let number = line_number(&line);
     match line.read() {
         Ok(Some(call)) => run_call(out, sheet, call, number),

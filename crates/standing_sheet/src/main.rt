@@ -10,7 +10,7 @@ use std::io::Read;
 const READ_AT_MOST: u64 = 65_537;
 
 /// Why the program ends without its report.
-#[derive(Drop)]
+#[derive(Debug, Drop)]
 enum Stop {
     NoMemory,
     Io(io::Error),
