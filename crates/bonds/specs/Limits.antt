@@ -1,5 +1,5 @@
 -- The limits that a bond keeps once it has passed both tests; these are proofs, which the definition of its terms needs.
-use Rattle.std.specs.Prelude.{◌≡◌, ℕ, ◌<◌, ◌≤◌, Bool, true, ◌||◌, ◌⊎◌, ◌==◌, nat_le}
+use Rattle.std.specs.Prelude.{◌≡◌, ℕ, ◌<◌, ◌≤◌, true, ◌||◌, ◌⊎◌, ◌==◌, nat_le}
 use Rattle.std.proofs.Common.{inl, inr, arith}
 use Rattle.std.proofs.lemmas.Bool.{and_parts, or_cases, eqb-true, leb-true, ltb-true}
 use Rattle.bonds.specs.declared.bond.Bond.{Bond}

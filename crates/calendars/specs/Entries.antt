@@ -1,5 +1,5 @@
 -- The entries of the yearly and the Easter rule.
-use Rattle.std.specs.Prelude.{ℕ, suc, ◌+◌, Bool, true, false, ◌&&◌, ℤ, pos, negsuc, ◌==◌, int_le}
+use Rattle.std.specs.Prelude.{ℕ, suc, ◌+◌, Bool, false, ◌&&◌, ℤ, pos, negsuc, ◌==◌, int_le}
 use Rattle.dates.specs.Civil.{possible, civil_at}
 use Rattle.dates.specs.Easter.{easter_of_day}
 use Rattle.calendars.specs.declared.month_day.MonthDay.{MonthDay}

@@ -1,5 +1,5 @@
 -- The listed calendar: days that rise strictly, up to the last day.
-use Rattle.std.specs.Prelude.{ℕ, zero, suc, ◌-◌, ◌≤◌, Bool, true, false, cond, not, ◌&&◌, ◌||◌, List, [], ◌∷◌, length, is_ok, Some, None, Ok, Err, Option, Result, nat_eq, nat_le, nat_lt, slice_index_or}
+use Rattle.std.specs.Prelude.{ℕ, zero, suc, ◌-◌, ◌≤◌, Bool, cond, ◌&&◌, ◌||◌, List, [], ◌∷◌, length, is_ok, Some, None, Ok, Option, Result, nat_eq, nat_le, nat_lt, slice_index_or}
 use Rattle.faults.specs.Refusals.{Refusal, refuse}
 use Rattle.dates.specs.declared.day.Day.{Day}
 use Rattle.calendars.specs.Codes.{closing, closing_small}

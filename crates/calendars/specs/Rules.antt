@@ -1,5 +1,5 @@
 -- Calendars of entries that are added one at a time.
-use Rattle.std.specs.Prelude.{ℕ, ◌≤◌, Bool, true, false, cond, not, ◌&&◌, ◌||◌, List, [], ◌∷◌, ◌++◌, length, is_ok, Ok, Err, Result, nat_lt}
+use Rattle.std.specs.Prelude.{ℕ, ◌≤◌, Bool, false, cond, not, ◌&&◌, ◌||◌, List, [], ◌∷◌, ◌++◌, length, is_ok, Ok, Result, nat_lt}
 use Rattle.faults.specs.Refusals.{Refusal, refuse}
 use Rattle.calendars.specs.Codes.{closing, closing_small}
 

@@ -1,5 +1,5 @@
 -- The days that a convention tries, and what is asked of them.
-use Rattle.std.specs.Prelude.{◌≡◌, ℕ, zero, suc, ◌+◌, ◌<◌, ◌≤◌, Bool, cond, ◌&&◌, List, [], ◌∷◌, length, Some, None, Ok, Err, Option, Result, ◌≢◌, nat_le, nat_lt, slice_index}
+use Rattle.std.specs.Prelude.{◌≡◌, ℕ, ◌+◌, ◌<◌, ◌≤◌, Bool, cond, ◌&&◌, List, [], ◌∷◌, length, Some, None, Ok, Option, Result, ◌≢◌, nat_le, nat_lt, slice_index}
 use Rattle.faults.specs.Refusals.{Refusal, refuse}
 
 -- an unadjusted day that conventions serve: from 365 to 109,207

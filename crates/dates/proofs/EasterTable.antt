@@ -1,5 +1,5 @@
 -- The table of the code once more: the check compares the two.
-use Rattle.std.proofs.Common.{◌≡◌, ℕ, ◌+◌, ◌-◌, ◌<◌, ◌≤◌, List, [], ◌∷◌, get_or, refl}
+use Rattle.std.proofs.Common.{◌≡◌, ℕ, ◌+◌, ◌<◌, ◌≤◌, List, [], ◌∷◌, get_or, refl}
 use Rattle.dates.specs.Easter.{easter_sum, easter_month, easter_day, easter_after}
 use Rattle.dates.specs.Years.{leap, new_year, month_start}
 use Rattle.dates.specs.Civil.{day_number}

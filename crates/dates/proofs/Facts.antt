@@ -1,6 +1,6 @@
 -- Where a day up to 109,572 lies.
-use Rattle.std.proofs.Common.{◌≡◌, ℕ, zero, suc, ◌+◌, ◌-◌, ◌*◌, ◌/◌, ◌<◌, ◌≤◌, Bool, true, false, cond, ◌&&◌, eqb, ltb, leb, sym, refl, ap, ◌∙◌, subst, add-one, arith}
-use Rattle.dates.specs.Years.{leap, year_len, new_year, month_len, month_start, last_place, year_of, month_of, place_of}
+use Rattle.std.proofs.Common.{◌≡◌, ℕ, suc, ◌+◌, ◌-◌, ◌/◌, ◌<◌, ◌≤◌, Bool, sym, refl, add-one, arith}
+use Rattle.dates.specs.Years.{leap, new_year, month_len, month_start, year_of, month_of, place_of}
 use Rattle.dates.proofs.Rows.{Within, within, place_is, rises}
 use Rattle.dates.proofs.YearCounts.{counted, rising, year_more}
 use Rattle.dates.proofs.MonthTables.{month_more, whole, len_high, month_rising, start_high}

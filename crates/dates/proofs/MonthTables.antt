@@ -1,6 +1,6 @@
 -- The twelve months, by tests over them.
-use Rattle.std.proofs.Common.{◌≡◌, ℕ, zero, suc, ◌+◌, ◌-◌, ◌*◌, ◌/◌, ◌<◌, ◌≤◌, Bool, true, false, cond, ◌&&◌, eqb, ltb, leb, List, [], ◌∷◌, get_or, sym, refl, ap, ◌∙◌, subst, arith}
-use Rattle.dates.specs.Years.{leap, year_len, month_len, month_start}
+use Rattle.std.proofs.Common.{◌≡◌, ℕ, suc, ◌+◌, ◌<◌, ◌≤◌, Bool, true, false, cond, ◌&&◌, eqb, ltb, List, [], ◌∷◌, get_or, refl, arith}
+use Rattle.dates.specs.Years.{month_len, month_start}
 use Rattle.dates.proofs.Computed.{equal, at_most}
 
 starts : List ℕ

@@ -1,12 +1,12 @@
 -- Between a day and its civil date nothing is lost, and later dates have larger numbers.
-use Rattle.std.proofs.Common.{◌≡◌, ℕ, zero, suc, ◌+◌, ◌-◌, ◌<◌, ◌≤◌, Bool, true, false, cond, ◌&&◌, eqb, ltb, leb, ◌⊎◌, Ok, Err, Result, sym, refl, ap, ◌∙◌, inl, inr, arith}
+use Rattle.std.proofs.Common.{◌≡◌, ℕ, ◌+◌, ◌-◌, ◌<◌, ◌≤◌, true, ◌⊎◌, Ok, Result, sym, refl, ap, ◌∙◌, inl, inr, arith}
 use Rattle.std.proofs.lemmas.Bool.Decides.{nat_tests}
 use Rattle.std.proofs.lemmas.Bool.{cases_lt}
 use Rattle.faults.specs.Refusals.{told, calendar_refusal}
 use Rattle.faults.specs.declared.origins.CalendarFault.{CalendarFault}
 use Rattle.dates.specs.declared.civil_date.CivilDate.{CivilDate}
 use Rattle.dates.specs.declared.day.Day.{Day}
-use Rattle.dates.specs.Years.{leap, new_year, month_len, month_start, year_of, month_of, place_of}
+use Rattle.dates.specs.Years.{year_of, month_of, place_of}
 use Rattle.dates.specs.Civil.{possible, day_number, day_answer, civil_answer, civil_at, earlier}
 use Rattle.dates.proofs.Facts.{parts, Given, given_year, given_month, given_place, given_top, year_order, month_order, place_order}
 

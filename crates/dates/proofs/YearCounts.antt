@@ -1,6 +1,6 @@
 -- The closed count of days before a year, by one computed test over 300 years.
-use Rattle.std.proofs.Common.{◌≡◌, ℕ, zero, suc, ◌+◌, ◌-◌, ◌*◌, ◌/◌, ◌<◌, ◌≤◌, Bool, true, false, cond, ◌&&◌, T, eqb, ltb, leb, sym, refl, ap, ◌∙◌, subst, arith, eqb→eq}
-use Rattle.dates.specs.Years.{leap, year_len, new_year}
+use Rattle.std.proofs.Common.{◌≡◌, ℕ, zero, suc, ◌+◌, ◌-◌, ◌*◌, ◌/◌, ◌<◌, ◌≤◌, cond, ltb, refl, ap, ◌∙◌, arith}
+use Rattle.dates.specs.Years.{year_len, new_year}
 use Rattle.dates.proofs.Computed.{equal}
 
 abbrev pub closed : ℕ → ℕ

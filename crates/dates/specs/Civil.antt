@@ -1,5 +1,5 @@
 -- Civil dates, and the days that they are.
-use Rattle.std.specs.Prelude.{ℕ, ◌+◌, ◌-◌, Bool, true, false, cond, ◌&&◌, ◌||◌, List, [], ◌∷◌, Ok, Err, Result, ◌==◌, nat_le, nat_lt}
+use Rattle.std.specs.Prelude.{ℕ, ◌+◌, ◌-◌, Bool, cond, ◌&&◌, ◌||◌, [], ◌∷◌, Ok, Result, ◌==◌, nat_le, nat_lt}
 use Rattle.faults.specs.Refusals.{Refusal, refuse}
 use Rattle.dates.specs.declared.civil_date.CivilDate.{CivilDate}
 use Rattle.dates.specs.declared.day.Day.{Day}

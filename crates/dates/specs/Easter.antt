@@ -1,5 +1,5 @@
 -- Easter Sunday by the rule of Meeus, fractions dropped.
-use Rattle.std.specs.Prelude.{ℕ, ◌+◌, ◌-◌, ◌*◌, ◌/◌, ◌%◌, Bool, true, false, cond, ◌&&◌, List, [], ◌∷◌, Ok, Err, Result, ◌==◌, nat_le}
+use Rattle.std.specs.Prelude.{ℕ, ◌+◌, ◌-◌, ◌*◌, ◌/◌, ◌%◌, cond, ◌&&◌, [], Ok, Result, ◌==◌, nat_le}
 use Rattle.faults.specs.Refusals.{Refusal, refuse}
 use Rattle.dates.specs.declared.day.Day.{Day}
 use Rattle.dates.specs.Years.{year_of}

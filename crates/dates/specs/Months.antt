@@ -1,5 +1,5 @@
 -- Months counted from January 1900.
-use Rattle.std.specs.Prelude.{ℕ, ◌+◌, ◌-◌, ◌*◌, ◌/◌, ◌%◌, min, Bool, true, false, cond, ◌&&◌, List, [], ◌∷◌, Some, None, Ok, Err, Option, Result, nat_le, nat_lt}
+use Rattle.std.specs.Prelude.{ℕ, ◌+◌, ◌-◌, ◌*◌, ◌/◌, ◌%◌, min, cond, ◌&&◌, [], Some, None, Ok, Option, Result, nat_le, nat_lt}
 use Rattle.faults.specs.Refusals.{Refusal, refuse}
 use Rattle.dates.specs.Years.{leap, new_year, month_len, month_start, year_of, month_of}
 

@@ -1,12 +1,12 @@
 -- The refusal of a schedule is that of its first failing roll.
-use Rattle.std.proofs.Common.{◌≡◌, ℕ, ◌+◌, ◌<◌, Bool, true, false, List, [], ◌∷◌, length, get_or, is_ok, Ok, Err, Result, sym, refl, ap, ◌∙◌, subst, zero-add, arith}
+use Rattle.std.proofs.Common.{◌≡◌, ℕ, ◌<◌, Bool, true, List, length, get_or, is_ok, Ok, Err, Result, sym, ap, ◌∙◌, zero-add, arith}
 use Rattle.faults.specs.Refusals.{Refusal}
 use Rattle.bonds.specs.declared.terms.Terms.{Terms}
 use Rattle.bonds.specs.Rolls.{rolls}
 use Rattle.generation.specs.Rolls.{RollDays}
 use Rattle.generation.specs.BondRolls.{bond_roll}
 use Rattle.generation.specs.Schedules.{Scheduled, all_rolls, scheduled, schedule_answer, FirstFault}
-use Rattle.generation.proofs.Granted.{Each, First, all_were_granted, first_was_refused}
+use Rattle.generation.proofs.Granted.{all_were_granted, first_was_refused}
 
 module _ (good : ℕ → Bool) (tries : ℕ → List ℕ) (t : Terms) where
   -- the rolls of a schedule that was granted

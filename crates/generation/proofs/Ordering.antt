@@ -1,8 +1,8 @@
 -- The adjusted days of a bond never go backward.
-use Rattle.std.proofs.Common.{◌≡◌, ℕ, suc, ◌-◌, ◌<◌, ◌≤◌, Bool, true, false, cond, eqb, ltb, List, [], ◌∷◌, length, get_or, Some, None, Ok, Err, Option, Result, sym, refl, ap, ◌∙◌, arith}
+use Rattle.std.proofs.Common.{◌≡◌, ℕ, ◌<◌, ◌≤◌, Bool, true, false, cond, eqb, ltb, List, [], ◌∷◌, length, get_or, Some, None, Ok, Option, refl, ap, arith}
 use Rattle.std.proofs.lemmas.Bool.Decides.{nat_tests}
 use Rattle.std.proofs.lemmas.Bool.{ltb-true}
-use Rattle.faults.specs.Refusals.{Refusal, refuse}
+use Rattle.faults.specs.Refusals.{refuse}
 use Rattle.conventions.specs.Tries.{Served, served, first_good}
 use Rattle.dates.proofs.Rows.{rises}
 use Rattle.bonds.specs.declared.terms.Terms.{Terms}

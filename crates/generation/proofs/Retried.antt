@@ -1,19 +1,16 @@
 -- A roll that does not stand on a changed day stays as it is, so trying the others anew is enough.
-use Rattle.std.proofs.Common.{◌≡◌, ℕ, zero, suc, ◌+◌, ◌-◌, ◌<◌, ◌≤◌, Bool, true, false, cond, ◌&&◌, ◌||◌, eqb, leb, List, [], ◌∷◌, map, length, get_or, Some, None, Ok, Err, Result, sym, refl, ap, ◌∙◌, zero-add, arith}
+use Rattle.std.proofs.Common.{◌≡◌, ℕ, zero, suc, ◌+◌, ◌-◌, ◌<◌, ◌≤◌, Bool, true, false, cond, ◌||◌, List, [], ◌∷◌, map, length, get_or, Ok, Result, sym, refl, ap, ◌∙◌, zero-add, arith}
 use Rattle.std.proofs.lemmas.Bool.Decides.{nat_tests}
-use Rattle.std.proofs.lemmas.Bool.{cases_Bool}
 use Rattle.faults.specs.Refusals.{Refusal, refuse}
 use Rattle.calendars.specs.Rules.{any}
 use Rattle.conventions.specs.Tries.{served}
 use Rattle.conventions.specs.Turns.{upward}
-use Rattle.bonds.specs.declared.terms.Terms.{Terms}
 use Rattle.bonds.specs.Rolls.{rolls, lag_of}
-use Rattle.generation.specs.Rolls.{RollDays, Span, footing, roll_of, roll_answer, Holds}
-use Rattle.generation.specs.Laws.{SameInside}
+use Rattle.generation.specs.Rolls.{Span, footing, roll_of, Holds}
 use Rattle.generation.specs.BondRolls.{bond_roll}
 use Rattle.generation.specs.Granting.{followed, each_granted}
 use Rattle.generation.specs.Schedules.{Scheduled, roll_in, scheduled, all_rolls, schedule_answer}
-use Rattle.generation.specs.Retrying.{inside, holds_one, counts, how_many, retried_roll, retried, among, SameButFor, RetrySuffices}
+use Rattle.generation.specs.Retrying.{holds_one, counts, how_many, retried_roll, retried, among, SameButFor, RetrySuffices}
 use Rattle.generation.proofs.Granted.{all_were_granted}
 use Rattle.generation.proofs.FirstFault.{its_rolls}
 use Rattle.generation.proofs.Standing.{footing_holds}

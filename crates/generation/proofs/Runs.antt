@@ -1,5 +1,5 @@
 -- The days tried up to a day are a run without gaps.
-use Rattle.std.proofs.Common.{◌≡◌, ℕ, zero, suc, ◌+◌, ◌-◌, ◌<◌, ◌≤◌, min, max, Bool, true, false, cond, eqb, List, [], ◌∷◌, length, get_or, take, sym, refl, ap, ◌∙◌, subst, arith}
+use Rattle.std.proofs.Common.{◌≡◌, ℕ, suc, ◌+◌, ◌-◌, ◌<◌, ◌≤◌, min, max, Bool, true, false, cond, eqb, List, [], ◌∷◌, length, take, sym, refl, ap, subst, arith}
 use Rattle.conventions.specs.Tries.{Served, Among, Run}
 use Rattle.generation.specs.Rolls.{up_to, lowest, highest, span, Holds}
 use Rattle.generation.specs.Laws.{RunWasTried}

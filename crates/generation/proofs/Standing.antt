@@ -1,11 +1,10 @@
 -- A roll depends on the days of its footing alone.
-use Rattle.std.proofs.Common.{◌≡◌, ℕ, zero, suc, ◌-◌, ◌<◌, ◌≤◌, min, max, Bool, true, false, cond, eqb, ltb, leb, ◌⊎◌, List, [], ◌∷◌, length, get_or, take, Some, None, Ok, Err, Option, Result, sym, refl, ap, ◌∙◌, subst, inl, inr, arith}
-use Rattle.std.proofs.lemmas.Bool.Decides.{nat_tests}
-use Rattle.std.proofs.lemmas.Bool.{both_ways, ne_eqb, eq-eqb, eqb-true, cases_Bool}
+use Rattle.std.proofs.Common.{◌≡◌, ℕ, zero, suc, ◌-◌, ◌≤◌, min, max, Bool, true, false, cond, eqb, List, [], ◌∷◌, Some, None, Ok, Option, Result, sym, refl, ap, ◌∙◌, subst, arith}
+use Rattle.std.proofs.lemmas.Bool.{both_ways, ne_eqb}
 use Rattle.faults.specs.Refusals.{Refusal}
-use Rattle.conventions.specs.Tries.{first_good, Among, Run}
-use Rattle.generation.specs.Rolls.{RollDays, nth_back, fixing, fixed_roll, adjusted_roll, roll_of, Span, up_to, lowest, highest, span, stretched, footing, Holds}
-use Rattle.generation.specs.Laws.{SameInside, FootingHolds}
+use Rattle.conventions.specs.Tries.{first_good}
+use Rattle.generation.specs.Rolls.{RollDays, nth_back, fixing, fixed_roll, adjusted_roll, roll_of, up_to, lowest, highest, footing}
+use Rattle.generation.specs.Laws.{FootingHolds}
 
 pub lowest_below : (u : ℕ) (ds : List ℕ) → lowest u ds ≤ u
 unfolding lowest

@@ -1,5 +1,5 @@
 -- Laws of rolls and footings.
-use Rattle.std.specs.Prelude.{◌≡◌, ℕ, ◌<◌, ◌≤◌, Bool, List, length, get_or, Ok}
+use Rattle.std.specs.Prelude.{◌≡◌, ℕ, Bool, List, Ok}
 use Rattle.conventions.specs.Tries.{Served, Among}
 use Rattle.generation.specs.Rolls.{RollDays, roll_of, Span, up_to, span, footing, Holds}
 

@@ -1,5 +1,5 @@
 -- A roll's adjusted day, fixing and footing, from the good days and the days tried.
-use Rattle.std.specs.Prelude.{◌≡◌, ℕ, zero, suc, ◌-◌, ◌<◌, ◌≤◌, min, max, Bool, true, false, cond, List, [], ◌∷◌, Some, None, Ok, Err, Option, Result, ◌==◌}
+use Rattle.std.specs.Prelude.{ℕ, zero, suc, ◌-◌, ◌≤◌, min, max, Bool, cond, List, [], ◌∷◌, Some, None, Ok, Option, Result, ◌==◌}
 use Rattle.faults.specs.Refusals.{Refusal, refuse}
 use Rattle.conventions.specs.Tries.{served, first_good}
 

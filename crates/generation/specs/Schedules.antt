@@ -1,5 +1,5 @@
 -- The whole schedule of a bond: all its rolls, generated.
-use Rattle.std.specs.Prelude.{◌≡◌, ℕ, ◌+◌, ◌<◌, Bool, true, List, [], ◌∷◌, map, length, take, is_ok, None, Ok, Err, Result, slice_index_or}
+use Rattle.std.specs.Prelude.{◌≡◌, ℕ, ◌+◌, ◌<◌, Bool, true, List, map, length, take, is_ok, None, Ok, Err, Result, slice_index_or}
 use Rattle.faults.specs.Refusals.{Refusal}
 use Rattle.conventions.specs.Turns.{upward}
 use Rattle.bonds.specs.declared.terms.Terms.{Terms}

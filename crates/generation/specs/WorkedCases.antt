@@ -1,5 +1,5 @@
 -- Examples worked out by hand.
-use Rattle.std.specs.Prelude.{◌≡◌, ℕ, Some}
+use Rattle.std.specs.Prelude.{◌≡◌, Some}
 use Rattle.dates.specs.Civil.{day_number}
 use Rattle.dates.specs.Easter.{easter_month, easter_day}
 use Rattle.calendars.specs.Codes.{good}

@@ -1,5 +1,5 @@
 -- One more schedule in its place: what the sheet becomes, and that it still keeps what generation gives.
-use Rattle.std.proofs.Common.{◌≡◌, ℕ, ◌+◌, ◌<◌, ◌≤◌, Bool, true, false, not, ltb, List, [], ◌∷◌, length, take, Ok, Err, Result, sym, refl, ap, ◌∙◌, arith}
+use Rattle.std.proofs.Common.{◌≡◌, ℕ, ◌+◌, ◌<◌, ◌≤◌, true, false, not, ltb, List, length, take, Ok, Err, Result, sym, ap, ◌∙◌, arith}
 use Rattle.std.proofs.lemmas.List.{length-take-le}
 use Rattle.std.proofs.lemmas.Bool.{and_from, lt-ltb}
 use Rattle.faults.specs.Refusals.{Refusal}
@@ -15,7 +15,7 @@ use Rattle.generation.specs.Rolls.{RollDays}
 use Rattle.generation.specs.Schedules.{Scheduled, scheduled, all_rolls, schedule_answer, seen_schedule}
 use Rattle.kept_sheet.specs.declared.place.Place.{Place}
 use Rattle.kept_sheet.specs.declared.place.Place.TheVariants.{Live}
-use Rattle.kept_sheet.specs.FreshSheets.{After, Fresh, number, good_days}
+use Rattle.kept_sheet.specs.FreshSheets.{After, number, good_days}
 use Rattle.kept_sheet.specs.Entries.{admitted, admitted_by, added, entered_by, entered}
 use Rattle.kept_sheet.specs.KeptBonds.{kept, all_live, place_number, bonds_of, view, Sound}
 use Rattle.kept_sheet.proofs.KeptPlaces.{by_number, kept_with, live_with, bonds_with, length_bonds, has_bond}

@@ -1,5 +1,5 @@
 -- One schedule less: what the sheet becomes, and that it still keeps what generation gives.
-use Rattle.std.proofs.Common.{◌≡◌, ℕ, ◌-◌, ◌≤◌, Bool, true, false, cond, ◌&&◌, leb, List, [], ◌∷◌, length, take, Ok, Err, Result, sym, refl, ap, ◌∙◌, arith}
+use Rattle.std.proofs.Common.{◌≡◌, ℕ, ◌-◌, ◌≤◌, Bool, true, false, cond, ◌&&◌, leb, List, [], ◌∷◌, length, take, Ok, Result, sym, ap, ◌∙◌}
 use Rattle.std.proofs.lemmas.Bool.{and_parts, le-leb}
 use Rattle.faults.specs.Refusals.{Refusal, naming}
 use Rattle.tables.specs.Tables.{rising, has, held, after_remove, without}
@@ -9,7 +9,7 @@ use Rattle.amendments.specs.Meanings.{Meaning}
 use Rattle.bonds.specs.declared.terms.Terms.{Terms}
 use Rattle.generation.specs.Schedules.{Scheduled, schedule_answer}
 use Rattle.kept_sheet.specs.declared.place.Place.{Place}
-use Rattle.kept_sheet.specs.FreshSheets.{After, Fresh, refused, number, good_days}
+use Rattle.kept_sheet.specs.FreshSheets.{After, refused, number, good_days}
 use Rattle.kept_sheet.specs.Entries.{retired}
 use Rattle.kept_sheet.specs.KeptBonds.{kept, all_live, place_number, bonds_of, view, Sound}
 use Rattle.kept_sheet.proofs.KeptPlaces.{by_number, kept_without, live_without, bonds_without, has_bond}

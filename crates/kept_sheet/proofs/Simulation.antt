@@ -1,8 +1,6 @@
 -- Trying anew what stands on a changed day is working everything out afresh.
-use Rattle.std.proofs.Common.{◌≡◌, ℕ, Bool, List, [], ◌∷◌, map, Ok, Result, sym, refl, ap, ◌∙◌}
-use Rattle.faults.specs.Refusals.{Refusal}
+use Rattle.std.proofs.Common.{◌≡◌, ℕ, List, [], ◌∷◌, refl}
 use Rattle.amendments.specs.Meanings.{Meaning}
-use Rattle.bonds.specs.declared.terms.Terms.{Terms}
 use Rattle.generation.specs.Granting.{followed, each_granted}
 use Rattle.generation.specs.Schedules.{Scheduled, schedule_answer}
 use Rattle.generation.specs.Retrying.{retried, SameButFor}

@@ -1,5 +1,5 @@
 -- What is kept stays what generation gives, as schedules come and go.
-use Rattle.std.proofs.Common.{◌≡◌, ℕ, Bool, true, false, cond, eqb, ltb, List, [], ◌∷◌, map, Ok, Err, Result, sym, refl, ap, ◌∙◌, arith}
+use Rattle.std.proofs.Common.{◌≡◌, ℕ, Bool, true, false, cond, eqb, ltb, List, [], ◌∷◌, map, Ok, Err, Result, refl, ap, ◌∙◌, arith}
 use Rattle.faults.specs.Refusals.{Refusal}
 use Rattle.tables.specs.Tables.{with_record, without}
 use Rattle.generation.specs.Granting.{followed, each_granted}

@@ -1,5 +1,5 @@
 -- The fresh sheet: the live bonds and what the calendar means, from which everything is worked out anew after each call.
-use Rattle.std.specs.Prelude.{ℕ, ◌+◌, Bool, cond, List, [], ◌∷◌, length, Ok, Err, Result}
+use Rattle.std.specs.Prelude.{ℕ, ◌+◌, Bool, List, [], ◌∷◌, length, Err, Result}
 use Rattle.faults.specs.Refusals.{Refusal}
 use Rattle.calendars.specs.Codes.{good}
 use Rattle.amendments.specs.Meanings.{Meaning}

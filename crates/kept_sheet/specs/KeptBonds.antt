@@ -1,5 +1,5 @@
 -- What a sheet of the code keeps, and when that is right.
-use Rattle.std.specs.Prelude.{◌≡◌, ℕ, Bool, true, false, List, [], ◌∷◌, map, length, Ok}
+use Rattle.std.specs.Prelude.{◌≡◌, ℕ, Bool, true, false, List, [], ◌∷◌, map, Ok}
 use Rattle.amendments.specs.Meanings.{Meaning}
 use Rattle.bonds.specs.declared.terms.Terms.{Terms}
 use Rattle.generation.specs.Schedules.{Scheduled, seen_schedule}

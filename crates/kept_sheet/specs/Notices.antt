@@ -1,5 +1,5 @@
 -- The four notices: what each does to the calendar, whom it touches, and which payments alter.
-use Rattle.std.specs.Prelude.{ℕ, ◌+◌, ◌-◌, Bool, true, false, cond, not, ◌&&◌, ◌||◌, List, [], ◌∷◌, ◌++◌, length, drop, Some, None, Ok, Err, Option, Result, ◌==◌, nat_le, slice_index_or}
+use Rattle.std.specs.Prelude.{ℕ, ◌+◌, ◌-◌, Bool, true, false, cond, ◌&&◌, ◌||◌, List, [], ◌∷◌, ◌++◌, length, drop, Some, None, Ok, Err, Option, Result, ◌==◌, nat_le, slice_index_or}
 use Rattle.faults.specs.Refusals.{Refusal, refuse, naming}
 use Rattle.calendars.specs.Codes.{good}
 use Rattle.amendments.specs.Meanings.{Meaning, is_entered, amended, restored}

@@ -1,6 +1,6 @@
 -- A sheet of the code as a fresh sheet, by the meanings of its calendar and its convention.
 use Rattle.std.specs.Prelude.{ℕ, List, take}
-use Rattle.amendments.specs.Meanings.{Rest, Meaning, meaning}
+use Rattle.amendments.specs.Meanings.{Rest, meaning}
 use Rattle.generation.specs.Schedules.{Scheduled}
 use Rattle.kept_sheet.specs.declared.sheet.Sheet.{Sheet}
 use Rattle.kept_sheet.specs.FreshSheets.{Fresh}

@@ -41,7 +41,12 @@ fn answered(out: &mut String, answer: Answer) -> Result<(), AllocError> {
 }
 
 /// Makes a call, and writes what happened.
-fn run_call(out: &mut String, sheet: &mut ProgramSheet, call: Call, line: usize) -> Result<(), AllocError> {
+fn run_call(
+    out: &mut String,
+    sheet: &mut ProgramSheet,
+    call: Call,
+    line: usize,
+) -> Result<(), AllocError> {
     match sheet.call(call) {
         Ok(answer) => answered(out, answer),
         Err(fault) => refuse(out, fault, line),

@@ -1,4 +1,4 @@
-use Rattle.std.proofs.Common.{◌≡◌, ℕ, ◌-◌, length, sym, refl, ap, ◌∙◌, arith}
+use Rattle.std.proofs.Common.{◌≡◌, ◌-◌, length, sym, ap, arith}
 use Rattle.calendars.specs.Lists.{breaks, refused_at, first_place}
 use Rattle.calendars.proofs.Scans.{first_here, first_next, first_none}
 use Rattle.calendars.proofs.listed.check_rising.Goals as goal

@@ -1,4 +1,4 @@
-use Rattle.std.proofs.Common.{◌≡◌, ℕ, Ok, ap, ◌∙◌}
+use Rattle.std.proofs.Common.{◌≡◌, Ok, ap, ◌∙◌}
 use Rattle.calendars.specs.Target.{layered, held, target_codes, target_yearly, target_easter}
 use Rattle.calendars.proofs.target_days.target_calendar.Goals as goal
 

@@ -1,4 +1,4 @@
-use Rattle.std.proofs.Common.{◌≡◌, sym, ◌∙◌, arith}
+use Rattle.std.proofs.Common.{arith}
 use Rattle.dates.specs.Years.{month_start}
 use Rattle.dates.proofs.Rows.{pass_at, stop_at}
 use Rattle.dates.proofs.Facts.{month_zero}

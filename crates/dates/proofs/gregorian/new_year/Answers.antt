@@ -1,4 +1,4 @@
-use Rattle.std.proofs.Common.{arith, rules}
+use Rattle.std.proofs.Common.{arith}
 use Rattle.dates.proofs.YearCounts.{counted}
 use Rattle.dates.proofs.gregorian.new_year.Goals as goal
 

@@ -1,4 +1,4 @@
-use Rattle.std.proofs.Common.{◌≡◌, ℕ, ◌≤◌, Bool, sym, ap, ◌∙◌, arith}
+use Rattle.std.proofs.Common.{ℕ, Bool, sym, ap, ◌∙◌, arith}
 use Rattle.calendars.specs.Codes.{good}
 use Rattle.calendars.proofs.GoodDays.{within}
 use Rattle.dates.specs.declared.day.Day.{Day}

@@ -1,9 +1,9 @@
-use Rattle.std.proofs.Common.{◌≡◌, ℕ, List, Some, None, Option, sym, refl, ap, ◌∙◌, rules}
+use Rattle.std.proofs.Common.{Option, sym, refl, ap, ◌∙◌, rules}
 use Rattle.std.specs.Option.{option_map}
 use Rattle.dates.specs.declared.day.Day.{Day}
 use Rattle.generation.specs.Rolls.{stretched}
-use Rattle.generation.specs.Views.{number_of, seen_roll, seen_footing}
-use Rattle.generation.proofs.Tried.{footing_from_span, footing_refused}
+use Rattle.generation.specs.Views.{number_of, seen_roll}
+use Rattle.generation.proofs.Tried.{footing_from_span}
 use Rattle.generation.proofs.Standing.{footing_holds}
 use Rattle.generation.proofs.Runs.{run_was_tried}
 use Rattle.generation.proofs.footing.footing_of.Goals as goal

@@ -1,4 +1,4 @@
-use Rattle.std.proofs.Common.{◌≡◌, ℕ, ◌<◌, List, length, sym, refl, ◌∙◌, arith}
+use Rattle.std.proofs.Common.{ℕ, ◌<◌, List, length, sym, refl, ◌∙◌, arith}
 use Rattle.conventions.proofs.Scanning.{tried}
 use Rattle.generation.proofs.Tried.{count_served, count_is, served_answer}
 use Rattle.generation.proofs.Spans.{at_next, at_end, run_out}

@@ -1,7 +1,5 @@
-use Rattle.std.proofs.Common.{ℕ, Bool, List, arith}
+use Rattle.std.proofs.Common.{arith}
 use Rattle.std.proofs.lemmas.Bool.Decides.{nat_tests}
-use Rattle.calendars.specs.Codes.{good}
-use Rattle.generation.specs.BondRolls.{NeverBackward}
 use Rattle.generation.proofs.Ordering.{never_backward}
 use Rattle.generation.proofs.generating.bond_roll.Goals as goal
 

@@ -1,5 +1,5 @@
-use Rattle.std.proofs.Common.{◌≡◌, ℕ, List, map, sym, ap, ◌∙◌, arith}
-use Rattle.generation.specs.Schedules.{Scheduled, seen_schedule}
+use Rattle.std.proofs.Common.{ℕ, List, map, sym, ap, ◌∙◌, arith}
+use Rattle.generation.specs.Schedules.{seen_schedule}
 use Rattle.generation.specs.Views.{number_of}
 use Rattle.kept_sheet.specs.Plans.{counted}
 use Rattle.kept_sheet.proofs.PlannedPlaces.{kept_next, kept_skip, kept_none, counted_more, counted_none}

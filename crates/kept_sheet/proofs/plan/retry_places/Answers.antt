@@ -1,11 +1,11 @@
-use Rattle.std.proofs.Common.{◌≡◌, ℕ, ◌+◌, ◌<◌, ◌≤◌, Bool, List, [], ◌∷◌, ◌++◌, map, length, get_or, take, drop, set, Ok, Result, sym, refl, ap, ◌∙◌, subst, append-nil, arith}
+use Rattle.std.proofs.Common.{◌≡◌, ℕ, ◌+◌, Bool, List, [], ◌∷◌, ◌++◌, map, take, drop, Ok, Result, sym, ap, ◌∙◌, subst, append-nil, arith}
 use Rattle.std.proofs.lemmas.Result.{err_from_is_err_and}
 use Rattle.std.proofs.lemmas.List.{take_more_set, length-take-le}
 use Rattle.faults.specs.Refusals.{Refusal}
 use Rattle.calendars.specs.Codes.{good}
 use Rattle.generation.specs.Granting.{each_granted}
-use Rattle.generation.specs.Schedules.{Scheduled, seen_schedule, scheduled}
-use Rattle.generation.specs.Retrying.{retried, retried_roll}
+use Rattle.generation.specs.Schedules.{Scheduled, seen_schedule}
+use Rattle.generation.specs.Retrying.{retried}
 use Rattle.generation.specs.Views.{number_of}
 use Rattle.generation.proofs.Granted.{prefixed, prefixed_none, granted_one, refused_one, granted_none}
 use Rattle.bonds.specs.declared.terms.Terms.{Terms}

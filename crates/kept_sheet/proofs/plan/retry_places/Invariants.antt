@@ -1,4 +1,4 @@
-use Rattle.std.proofs.Common.{◌≡◌, true, map, length, take, drop}
+use Rattle.std.proofs.Common.{◌≡◌, map, take, drop}
 use Rattle.calendars.specs.Codes.{good}
 use Rattle.generation.specs.Granting.{each_granted}
 use Rattle.generation.specs.Retrying.{retried}

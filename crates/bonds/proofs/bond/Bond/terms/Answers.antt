@@ -1,7 +1,7 @@
-use Rattle.std.proofs.Common.{◌≡◌, true, cond, eqb, leb, refl, ap, ◌∙◌, arith}
+use Rattle.std.proofs.Common.{◌≡◌, true, cond, eqb, arith}
 use Rattle.std.proofs.lemmas.Bool.Decides.{nat_tests}
-use Rattle.bonds.specs.Bonds.{in_range, in_order, checked}
-use Rattle.bonds.specs.BondTerms.{stub_code, bond_of}
+use Rattle.bonds.specs.Bonds.{in_range, in_order}
+use Rattle.bonds.specs.BondTerms.{stub_code}
 use Rattle.bonds.specs.Limits.{limits}
 use Rattle.bonds.proofs.SameTerms.{respelled, terms_are, whole_bond}
 use Rattle.bonds.proofs.bond.Bond.terms.Goals as goal

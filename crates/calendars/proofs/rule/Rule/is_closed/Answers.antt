@@ -1,4 +1,4 @@
-use Rattle.std.proofs.Common.{◌≡◌, Bool, sym, refl, ap, ◌∙◌, arith}
+use Rattle.std.proofs.Common.{Bool, sym, refl, ap, ◌∙◌, arith}
 use Rattle.dates.proofs.Asked.{answered, asked_is}
 use Rattle.calendars.specs.Rules.{any}
 use Rattle.calendars.proofs.Scans.{any_here, any_next, any_none}

@@ -1,4 +1,4 @@
-use Rattle.std.proofs.Common.{arith, rules}
+use Rattle.std.proofs.Common.{rules}
 use Rattle.dates.proofs.RoundTrip.{day_laws}
 use Rattle.dates.proofs.civil_date.CivilDate.day.Goals as goal
 

@@ -1,4 +1,4 @@
-use Rattle.std.proofs.Common.{◌≡◌, Bool, true, false, sym, refl, ap, ◌∙◌, arith}
+use Rattle.std.proofs.Common.{Bool, sym, ◌∙◌, arith}
 use Rattle.dates.specs.declared.day.Day.{Day}
 use Rattle.calendars.proofs.Scans.{any_here, any_next, any_none}
 use Rattle.generation.specs.Retrying.{inside}

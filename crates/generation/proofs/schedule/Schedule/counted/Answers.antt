@@ -1,4 +1,4 @@
-use Rattle.std.proofs.Common.{◌≡◌, ℕ, ◌+◌, ◌-◌, ◌<◌, Bool, true, false, List, map, length, sym, refl, ap, ◌∙◌, zero-add, arith}
+use Rattle.std.proofs.Common.{◌≡◌, ℕ, ◌-◌, ◌<◌, Bool, true, false, map, length, sym, ap, ◌∙◌, zero-add, arith}
 use Rattle.conventions.specs.Turns.{upward}
 use Rattle.generation.specs.Retrying.{counts, how_many}
 use Rattle.generation.specs.Schedules.{seen_schedule}

@@ -1,9 +1,9 @@
-use Rattle.std.proofs.Common.{◌≡◌, ℕ, ◌<◌, List, map, length, get_or, sym, refl, ap, ◌∙◌, arith}
+use Rattle.std.proofs.Common.{◌≡◌, ℕ, List, map, get_or, sym, ap, ◌∙◌, arith}
 use Rattle.bonds.specs.Rolls.{rolls}
-use Rattle.generation.specs.Rolls.{RollDays, Span, footing}
+use Rattle.generation.specs.Rolls.{Span, footing}
 use Rattle.generation.specs.Schedules.{seen_schedule, roll_in}
 use Rattle.generation.specs.Retrying.{holds_one, counts}
-use Rattle.generation.specs.Views.{number_of, seen_roll, seen_footing}
+use Rattle.generation.specs.Views.{number_of, seen_roll}
 use Rattle.generation.proofs.ScheduleLengths.{counted, seen_at, roll_there, never_absent}
 use Rattle.generation.proofs.Tried.{footing_is}
 use Rattle.generation.proofs.schedule.Schedule.counts.Goals as goal

@@ -1,6 +1,5 @@
-use Rattle.std.proofs.Common.{◌≡◌, ◌-◌, ◌<◌, ◌≤◌, true, cond, ◌&&◌, ltb, leb, length, get_or, Some, None, sym, ap, ◌∙◌, arith}
+use Rattle.std.proofs.Common.{◌≡◌, ◌-◌, cond, ltb, leb, length, get_or, Some, None, sym, ap, ◌∙◌, arith}
 use Rattle.std.proofs.lemmas.Bool.{le-leb, lt-ltb, and_from}
-use Rattle.generation.specs.Rolls.{RollDays}
 use Rattle.generation.specs.Schedules.{roll_in, seen_schedule}
 use Rattle.generation.specs.Views.{seen_roll}
 use Rattle.generation.specs.Payments.{payment_of}

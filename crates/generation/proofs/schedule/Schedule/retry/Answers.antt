@@ -1,4 +1,4 @@
-use Rattle.std.proofs.Common.{◌≡◌, ℕ, ◌+◌, ◌-◌, ◌<◌, Bool, List, [], ◌∷◌, ◌++◌, map, length, take, set, Ok, Err, Result, sym, refl, ap, ◌∙◌, arith}
+use Rattle.std.proofs.Common.{◌≡◌, ℕ, ◌+◌, ◌-◌, Bool, List, [], ◌∷◌, ◌++◌, map, length, take, set, Ok, Result, sym, refl, ap, ◌∙◌, arith}
 use Rattle.std.proofs.lemmas.Result.{err_from_is_err_and}
 use Rattle.std.proofs.lemmas.List.{take_more_set, map_push, length-set}
 use Rattle.faults.specs.Refusals.{Refusal}
@@ -11,7 +11,6 @@ use Rattle.generation.specs.Schedules.{seen_schedule, scheduled}
 use Rattle.generation.specs.Views.{number_of, seen_roll}
 use Rattle.generation.proofs.Granted.{prefixed, prefixed_start, granted_more, refused_here, granted_all}
 use Rattle.generation.proofs.Retried.{retry_suffices}
-use Rattle.generation.proofs.schedule.Schedule.retry.Given as given
 use Rattle.generation.proofs.schedule.Schedule.retry.Goals as goal
 
 pub loop-i-init : goal.loop-i-init

@@ -1,4 +1,4 @@
-use Rattle.std.proofs.Common.{◌≡◌, ℕ, Bool, List, map, Ok, sym, refl, ap, ◌∙◌, arith}
+use Rattle.std.proofs.Common.{ℕ, Bool, List, map, Ok, sym, ap, ◌∙◌, arith}
 use Rattle.calendars.specs.Codes.{good}
 use Rattle.generation.specs.Schedules.{seen_schedule}
 use Rattle.generation.specs.Views.{number_of}

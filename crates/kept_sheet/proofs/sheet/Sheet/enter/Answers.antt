@@ -1,10 +1,9 @@
-use Rattle.std.proofs.Common.{◌≡◌, ℕ, ◌+◌, ◌≤◌, true, ltb, List, length, take, Ok, sym, refl, ap, ◌∙◌, arith}
+use Rattle.std.proofs.Common.{◌≡◌, ℕ, ◌+◌, true, ltb, List, length, take, Ok, sym, refl, ◌∙◌, arith}
 use Rattle.std.proofs.lemmas.Bool.{false≢true, ltb-true, and_parts}
 use Rattle.generation.specs.Schedules.{all_rolls, seen_schedule}
 use Rattle.kept_sheet.specs.FreshSheets.{good_days}
 use Rattle.amendments.specs.Meanings.{Meaning, meaning}
 use Rattle.tables.specs.Tables.{insertable}
-use Rattle.kept_sheet.specs.declared.place.Place.{Place}
 use Rattle.kept_sheet.specs.declared.place.Place.TheVariants.{Live}
 use Rattle.kept_sheet.specs.KeptBonds.{kept, place_number, view}
 use Rattle.kept_sheet.proofs.EnteredBonds.{its_terms, still_live, still_rising, entered_fresh, still_sound, admitted_fits}

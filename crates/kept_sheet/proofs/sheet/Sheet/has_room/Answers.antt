@@ -1,4 +1,4 @@
-use Rattle.std.proofs.Common.{◌≡◌, ◌<◌, ◌≤◌, List, length, sym, ap, ◌∙◌, arith}
+use Rattle.std.proofs.Common.{List, length, sym, ap, ◌∙◌, arith}
 use Rattle.bonds.specs.declared.terms.Terms.{Terms}
 use Rattle.kept_sheet.specs.KeptBonds.{bonds_of}
 use Rattle.kept_sheet.specs.SheetViews.{kept_by}

@@ -1,5 +1,5 @@
-use Rattle.std.proofs.Common.{◌≡◌, is_ok, sym, ap, ◌∙◌}
-use Rattle.tables.specs.Tables.{has, found}
+use Rattle.std.proofs.Common.{is_ok, ap, ◌∙◌}
+use Rattle.tables.specs.Tables.{has}
 use Rattle.tables.proofs.Places.{found_is_ok}
 use Rattle.kept_sheet.specs.KeptBonds.{place_number}
 use Rattle.kept_sheet.proofs.KeptPlaces.{has_bond}

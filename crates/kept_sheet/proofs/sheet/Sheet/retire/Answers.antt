@@ -1,9 +1,7 @@
-use Rattle.std.proofs.Common.{◌≡◌, ℕ, ◌≤◌, true, false, List, length, take, sym, refl, ap, ◌∙◌, arith}
+use Rattle.std.proofs.Common.{◌≡◌, ℕ, ◌≤◌, true, false, List, length, sym, refl, ◌∙◌, arith}
 use Rattle.tables.specs.Tables.{held}
-use Rattle.tables.proofs.Afters.{found_lt}
 use Rattle.amendments.specs.Meanings.{Meaning, meaning}
-use Rattle.kept_sheet.specs.declared.place.Place.{Place}
-use Rattle.kept_sheet.specs.KeptBonds.{kept, place_number, Sound}
+use Rattle.kept_sheet.specs.KeptBonds.{place_number}
 use Rattle.kept_sheet.proofs.RetiredBonds.{live_still, rising_still, retired_fresh, sound_still, places_same, refused_fresh}
 use Rattle.kept_sheet.proofs.sheet.Sheet.retire.Goals as goal
 

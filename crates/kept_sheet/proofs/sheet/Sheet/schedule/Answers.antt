@@ -1,4 +1,4 @@
-use Rattle.std.proofs.Common.{◌≡◌, ℕ, true, List, get_or, sym, refl, ap, ◌∙◌, subst}
+use Rattle.std.proofs.Common.{ℕ, List, get_or, sym, ap, ◌∙◌}
 use Rattle.tables.specs.Tables.{rising}
 use Rattle.tables.proofs.Places.{when_found, when_absent}
 use Rattle.kept_sheet.specs.declared.place.Place.{Place}

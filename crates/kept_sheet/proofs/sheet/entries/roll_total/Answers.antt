@@ -1,9 +1,6 @@
-use Rattle.std.proofs.Common.{◌≡◌, sym, ◌∙◌, arith}
-use Rattle.std.proofs.lemmas.List.{at_drop_all}
+use Rattle.std.proofs.Common.{sym, ◌∙◌, arith}
 use Rattle.generation.proofs.ScheduleLengths.{seen_length}
-use Rattle.kept_sheet.specs.KeptBonds.{kept}
-use Rattle.kept_sheet.specs.FreshSheets.{roll_total}
-use Rattle.kept_sheet.proofs.Totals.{total, live_next, free_next, none_left}
+use Rattle.kept_sheet.proofs.Totals.{live_next, free_next, none_left}
 use Rattle.kept_sheet.proofs.sheet.entries.roll_total.Goals.{in-Live, in-Free}
 use Rattle.kept_sheet.proofs.sheet.entries.roll_total.Goals as goal
 
