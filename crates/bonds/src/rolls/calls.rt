@@ -87,6 +87,6 @@ impl Rolls {
     pub fn number(&self) -> u32
         ensures { result ≡ self.now.terms.number }
     {
-        self.terms.number()
+        self.terms.number
     }
 }
