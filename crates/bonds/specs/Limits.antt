@@ -28,8 +28,11 @@ pub record Limits (b : Bond) : Type 0 where
   pub early : 365 ≤ b.effective.0
   pub rising : b.effective.0 < b.maturity.0
   pub late : b.maturity.0 ≤ 109207
+  pub number : b.number ≤ 999999
   pub some : 1 ≤ b.months
   pub year : b.months ≤ 12
+  pub code : b.stub ≤ 3
+  pub mark : b.mark ≤ 1
   pub lagged : b.lag ≤ most_lag
   pub faced : b.face ≤ 100000000000
   pub rated : b.rate ≤ 100000
@@ -48,8 +51,11 @@ limits b p q =
       early = leb-true 365 b.effective.0 effective.0;
       rising = ltb-true b.effective.0 b.maturity.0 maturity.1;
       late = leb-true b.maturity.0 109207 maturity.0;
+      number = leb-true b.number 999999 (and_parts (nat_le 1 b.number) _ number.0).1;
       some = (period_limits b.months months.0).0;
       year = (period_limits b.months months.0).1;
+      code = leb-true b.stub 3 stub.0;
+      mark = leb-true b.mark 1 mark.0;
       lagged = leb-true b.lag most_lag lag.0;
       faced = leb-true b.face 100000000000 (and_parts (nat_le 1 b.face) _ face.0).1;
       rated = leb-true b.rate 100000 face.1;

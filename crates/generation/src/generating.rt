@@ -42,27 +42,6 @@ pub fn generate<K: Calendar, C: Convention>(
     }
 }
 
-/// Roll i of a bond, which has one.
-pub(crate) fn roll_of_bond<K: Calendar, C: Convention>(
-    calendar: &K,
-    convention: &C,
-    rolls: &Rolls,
-    i: u32,
-) -> Result<Roll, GenerationFault>
-    requires { i < length (unadjusted_rolls rolls.now.terms) }
-    ensures { result_map_both seen_roll generation_refusal result ≡ bond_roll (λ d. good (K.Calendar.codes calendar.now d)) (C.Convention.tries convention.now) rolls.now.terms i }
-{
-    let Some(u) = rolls.day(i) else {
-        return Err(GenerationFault::NotTried);
-    };
-    let at = RollAt {
-        bond: u64::from(rolls.number()),
-        roll: i,
-        day: u.0,
-    };
-    generate(calendar, convention, at, rolls.lag(i))
-}
-
 /// Roll i of a bond, if it has one.
 pub fn bond_roll<K: Calendar, C: Convention>(
     calendar: &K,
@@ -73,8 +52,27 @@ pub fn bond_roll<K: Calendar, C: Convention>(
     ensures is { option_mapped (result_map_both seen_roll generation_refusal) result ≡ generated (λ d. good (K.Calendar.codes calendar.now d)) (C.Convention.tries convention.now) rolls.now.terms i }
     ensures order { NeverBackward (λ d. good (K.Calendar.codes calendar.now d)) (C.Convention.tries convention.now) rolls.now.terms }
 {
-    if i >= rolls.count() {
-        return None;
+    let u = rolls.day(i)?;
+    let at = RollAt {
+        bond: u64::from(rolls.number()),
+        roll: i,
+        day: u.0,
+    };
+    Some(generate(calendar, convention, at, rolls.lag(i)))
+}
+
+/// Roll i of a bond, which has one.
+pub(crate) fn roll_of_bond<K: Calendar, C: Convention>(
+    calendar: &K,
+    convention: &C,
+    rolls: &Rolls,
+    i: u32,
+) -> Result<Roll, GenerationFault>
+    requires { i < length (unadjusted_rolls rolls.now.terms) }
+    ensures { result_map_both seen_roll generation_refusal result ≡ bond_roll (λ d. good (K.Calendar.codes calendar.now d)) (C.Convention.tries convention.now) rolls.now.terms i }
+{
+    match bond_roll(calendar, convention, rolls, i) {
+        Some(roll) => roll,
+        None => unreachable(),
     }
-    Some(roll_of_bond(calendar, convention, rolls, i))
 }
