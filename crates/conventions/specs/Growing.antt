@@ -23,7 +23,7 @@ wider {ds} {a} {b} {n} s w = record { whole = all; only = each }
     all : (d : ℕ) → b ≤ d → d < b + suc n → (k : ℕ) × (k < suc n) × (slice_index ds k ≡ d)
     all d l h = elim (cases_eq (slice_index ds n) d) [
       | inl e ↦ (n, omega arith, e)
-      | inr ne ↦ (let z : (a ≤ d) × (d < a + n) = elim w [ inl t ↦ grind arith | inr t ↦ grind arith ] in let q = s.whole d z.0 z.1 in (q.0, omega (arith, q.1), q.2))
+      | inr ne ↦ (let z : (a ≤ d) × (d < a + n) = elim w [ inl t ↦ (omega arith, omega arith) | inr t ↦ (omega arith, omega arith) ] in let q = s.whole d z.0 z.1 in (q.0, omega (arith, q.1), q.2))
     ]
 
     each : (k : ℕ) → k < suc n → (b ≤ slice_index ds k) × (slice_index ds k < b + suc n)

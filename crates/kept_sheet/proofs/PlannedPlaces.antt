@@ -8,7 +8,8 @@ use Rattle.generation.specs.Retrying.{counted_in}
 use Rattle.kept_sheet.specs.declared.place.Place.{Place}
 use Rattle.kept_sheet.specs.declared.place.Place.TheVariants.{Free, Live}
 use Rattle.kept_sheet.specs.KeptBonds.{kept, all_live, place_number}
-use Rattle.kept_sheet.specs.Plans.{counted, SameBonds}
+use Rattle.kept_sheet.specs.Notices.{counted}
+use Rattle.kept_sheet.specs.Plans.{SameBonds}
 
 module _ (ps : List Place) (i : ℕ) (inside : i < length ps) where
   -- the place at i holds a bond

@@ -6,7 +6,8 @@ ghost use Rattle.generation.specs.Granting.{each_granted};
 ghost use Rattle.generation.specs.Retrying.{retried};
 ghost use Rattle.generation.specs.Views.{number_of};
 ghost use Rattle.kept_sheet.specs.KeptBonds.{kept, all_live};
-ghost use Rattle.kept_sheet.specs.Plans.{counted, SameBonds};
+ghost use Rattle.kept_sheet.specs.Notices.{counted};
+ghost use Rattle.kept_sheet.specs.Plans.{SameBonds};
 
 use crate::place::Place;
 use calendars::Calendar;

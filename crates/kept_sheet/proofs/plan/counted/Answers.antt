@@ -1,7 +1,7 @@
 use Rattle.std.proofs.Common.{ℕ, List, map, sym, ap, ◌∙◌, arith}
 use Rattle.generation.specs.Schedules.{seen_schedule}
 use Rattle.generation.specs.Views.{number_of}
-use Rattle.kept_sheet.specs.Plans.{counted}
+use Rattle.kept_sheet.specs.Notices.{counted}
 use Rattle.kept_sheet.proofs.PlannedPlaces.{kept_next, kept_skip, kept_none, counted_more, counted_none}
 use Rattle.kept_sheet.proofs.plan.counted.Goals.{in-Live, in-Free}
 use Rattle.kept_sheet.proofs.plan.counted.Goals as goal

@@ -1,7 +1,7 @@
 use Rattle.std.proofs.Common.{◌≡◌, ◌+◌, ◌*◌, ◌≤◌, map, drop}
 use Rattle.generation.specs.Views.{number_of}
 use Rattle.kept_sheet.specs.KeptBonds.{kept}
-use Rattle.kept_sheet.specs.Plans.{counted}
+use Rattle.kept_sheet.specs.Notices.{counted}
 use Rattle.kept_sheet.proofs.plan.counted.Given as goal
 
 abbrev pub invariant-loop-place : goal.invariant-loop-place
