@@ -73,6 +73,7 @@ impl Fault {
     }
 }
 
+// One `From` an origin, by hand: a caller's proof reads `from_gives`, and the derive of thiserror states none.
 impl From<CalendarFault> for Fault {
     ghost from_gives = { λ e r. r ≡ Calendar e };
 

@@ -1,5 +1,5 @@
 /// A calendar refuses.
-#[derive(Clone, Copy, PartialEq, Debug)]
+#[derive(Clone, Copy, PartialEq, Eq, Debug)]
 pub enum CalendarFault {
     /// 10: the day lies after 31 December 2199.
     DayAbove(u32),
@@ -16,7 +16,7 @@ pub enum CalendarFault {
 }
 
 /// A roll of a bond, with the day that the terms give it; bond and roll are 0 where there is no bond.
-#[derive(Clone, Copy, PartialEq, Debug)]
+#[derive(Clone, Copy, PartialEq, Eq, Debug)]
 pub struct RollAt {
     pub bond: u64,
     pub roll: u32,
@@ -24,7 +24,7 @@ pub struct RollAt {
 }
 
 /// A calendar and a bond do not go together.
-#[derive(Clone, Copy, PartialEq, Debug)]
+#[derive(Clone, Copy, PartialEq, Eq, Debug)]
 pub enum GenerationFault {
     /// 20: no day that is tried is good.
     NoGoodDay(RollAt),
@@ -35,7 +35,7 @@ pub enum GenerationFault {
 }
 
 /// The text cannot be read.
-#[derive(Clone, Copy, PartialEq, Debug)]
+#[derive(Clone, Copy, PartialEq, Eq, Debug)]
 pub enum TextFault {
     /// 50: the line, from 1, has not the form of an entry.
     BadLine(usize),
@@ -44,7 +44,7 @@ pub enum TextFault {
 }
 
 /// A sheet refuses; the cases that hold a number hold the bond's.
-#[derive(Clone, Copy, PartialEq, Debug)]
+#[derive(Clone, Copy, PartialEq, Eq, Debug)]
 pub enum SheetFault {
     /// 1: a field is out of its range, days aside.
     OutOfRange(u64),
@@ -69,7 +69,7 @@ pub enum SheetFault {
 }
 
 /// Any refusal, by its origin.
-#[derive(Clone, Copy, PartialEq, Debug)]
+#[derive(Clone, Copy, PartialEq, Eq, Debug)]
 pub enum Fault {
     Calendar(CalendarFault),
     Generation(GenerationFault),
