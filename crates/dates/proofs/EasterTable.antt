@@ -1,8 +1,11 @@
 -- The table of the code once more: the check compares the two.
-use Rattle.std.proofs.Common.{◌≡◌, ℕ, ◌+◌, ◌<◌, ◌≤◌, List, [], ◌∷◌, get_or, refl}
-use Rattle.dates.specs.Easter.{easter_sum, easter_month, easter_day, easter_after}
+use Rattle.std.proofs.Common.{◌≡◌, ℕ, ◌+◌, ◌-◌, ◌<◌, ◌≤◌, Ok, List, [], ◌∷◌, get_or, refl, arith}
+use Rattle.std.proofs.lemmas.Bool.Decides.{nat_tests}
+use Rattle.dates.specs.Easter.{easter_sum, easter_month, easter_day, easter_after, easter_answer}
 use Rattle.dates.specs.Years.{leap, new_year, month_start}
+use Rattle.dates.specs.Months.{first_of, month_answer}
 use Rattle.dates.specs.Civil.{day_number}
+use Rattle.dates.proofs.CivilMonths.{month_granted}
 use Rattle.dates.proofs.Computed.{table, equal, at_most}
 
 unfoldable pub entries : List ℕ
@@ -39,3 +42,12 @@ unfolding new_year month_start easter_sum easter_month easter_day easter_after
 on_date =
     equal (λ k. new_year k + month_start (leap (1900 + k)) 2 + 20 + easter_after (1900 + k))
     (λ k. day_number (1900 + k) (easter_month (1900 + k)) (easter_day (1900 + k))) 300 refl
+
+-- Easter Sunday by its table, from the March of a year
+pub from_march : (y q : ℕ) → Ok q ≡ month_answer y 3 → Ok (record { 0 = first_of q + 20 + get_or entries (y - 1900) 0 }) ≡ easter_answer y
+from_march y q e =
+    let m = month_granted y 3 q e in
+    let x : 1900 + (y - 1900) ≡ y = omega arith in
+    let r = rw x at (right (y - 1900) (omega arith)) in
+    let o = rw x at (on_date (y - 1900) (omega arith)) in
+    grind (arith, nat_tests)

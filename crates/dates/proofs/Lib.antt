@@ -7,3 +7,4 @@ pub mod EasterTable
 pub mod RoundTrip
 pub mod Asked
 pub mod MonthShifts
+pub mod CivilMonths

@@ -3,8 +3,8 @@ ghost use Rattle.faults.specs.Refusals.{told, calendar_refusal};
 ghost use Rattle.dates.specs.Civil.{day_answer, civil_answer, earlier};
 
 use crate::civil_date::CivilDate;
-use crate::day::{Day, LAST_DAY};
-use crate::gregorian::{is_leap, month_len, month_start, new_year, spot_of};
+use crate::day::Day;
+use crate::month::Month;
 use faults::CalendarFault;
 
 impl CivilDate {
@@ -14,21 +14,12 @@ impl CivilDate {
         ensures back { (d : Day) → result ≡ Ok d → civil_answer d ≡ Ok self }
         ensures order { (c : CivilDate) (d e : Day) → result ≡ Ok d → day_answer c ≡ Ok e → earlier self c ≡ true → d.0 < e.0 }
     {
-        if self.year < 1900
-            || self.year > 2199
-            || self.month < 1
-            || self.month > 12
-            || self.day < 1
-        {
+        let month = Month::of(self.year, self.month)?;
+        let day = u32::from(self.day);
+        if day < 1 || day > month.length() {
             return Err(CalendarFault::BadEntry);
         }
-        let long = is_leap(self.year);
-        let month = self.month as usize - 1;
-        if self.day > month_len(long, month) {
-            return Err(CalendarFault::BadEntry);
-        }
-        let year = self.year as u32 - 1900;
-        Ok(Day(new_year(year) + month_start(long, month) + (self.day as u32 - 1)))
+        Ok(month.day_at(day - 1))
     }
 }
 
@@ -38,14 +29,11 @@ impl Day {
         ensures is { told calendar_refusal result ≡ civil_answer self }
         ensures back { (c : CivilDate) → result ≡ Ok c → day_answer c ≡ Ok self }
     {
-        if self.0 > LAST_DAY {
-            return Err(CalendarFault::DayAbove(self.0));
-        }
-        let spot = spot_of(self.0);
+        let at = self.month_place()?;
         Ok(CivilDate {
-            year: 1900 + spot.year as u16,
-            month: spot.month as u8 + 1,
-            day: spot.place as u8 + 1,
+            year: at.month.year(),
+            month: at.month.number(),
+            day: at.place as u8 + 1,
         })
     }
 }

@@ -1,9 +1,5 @@
-ghost use Rattle.std.specs.Prelude.{◌≡◌, ℕ, ◌+◌, ◌*◌, ◌<◌, ◌≤◌};
-ghost use Rattle.dates.specs.Years.{leap, new_year, month_start, month_len, last_place, year_of, month_of, place_of};
-
-const STARTS: [u16; 12] = [0, 31, 59, 90, 120, 151, 181, 212, 243, 273, 304, 334];
-
-const LENGTHS: [u8; 12] = [31, 28, 31, 30, 31, 30, 31, 31, 30, 31, 30, 31];
+ghost use Rattle.std.specs.Prelude.{◌≡◌, ◌*◌, ◌≤◌};
+ghost use Rattle.dates.specs.Years.{leap, new_year, year_of};
 
 /// Whether a year has a 29 February.
 pub fn is_leap(year: u16) -> bool
@@ -18,71 +14,15 @@ pub(crate) fn new_year(n: u32) -> u32
     ensures is { result ≡ new_year n }
     ensures bound { result ≤ 366 * n }
 {
-    let century = if n > 200 { 1 } else { 0 };
-    365 * n + n.saturating_sub(1) / 4 - century
+    365 * n + n.saturating_sub(1) / 4 - u32::from(n > 200)
 }
 
-/// The days of a year before its month m, counted from 0.
-pub(crate) fn month_start(long: bool, m: usize) -> u32
-    requires { m < 12 }
-    ensures is { result ≡ month_start long m }
-    ensures bound { result ≤ 335 }
-{
-    let extra = if long && m > 1 { 1 } else { 0 };
-    STARTS[m] as u32 + extra
-}
-
-/// The length of month m of a year, counted from 0.
-pub(crate) fn month_len(long: bool, m: usize) -> u8
-    requires { m < 12 }
-    ensures is { result ≡ month_len long m }
-    ensures bound { (28 ≤ result) × (result ≤ 31) }
-{
-    if long && m == 1 { 29 } else { LENGTHS[m] }
-}
-
-/// The year, from 1900, in which a day lies.
-fn year_of(d: u32) -> u32
+/// The year, from 1900, in which a day lies. No year is longer than 366 days, so that the guess is at most one year too early.
+pub(crate) fn year_of(d: u32) -> u32
     requires { d ≤ 109572 }
     ensures is { result ≡ year_of d }
     ensures bound { result ≤ 299 }
 {
     let n = d / 366;
     if new_year(n + 1) <= d { n + 1 } else { n }
-}
-
-/// The month, from 0, in which the day `rest` of a year lies.
-fn month_of(long: bool, rest: u32) -> usize
-    ensures is { result ≡ last_place (month_start long) 11 rest }
-    ensures bound { result ≤ 11 }
-{
-    let mut m = 11;
-    while m > 0 && month_start(long, m) > rest {
-        m -= 1;
-    }
-    m
-}
-
-/// The year from 1900, the month of it from 0 and the day of that from 0.
-#[derive(Clone, Copy)]
-pub(crate) struct Spot {
-    pub(crate) year: u32,
-    pub(crate) month: usize,
-    pub(crate) place: u32,
-}
-
-pub(crate) fn spot_of(d: u32) -> Spot
-    requires { d ≤ 109572 }
-    ensures is { result ≡ record { year = year_of d; month = month_of d; place = place_of d } }
-    ensures bound { (result.year ≤ 299) × ((result.month ≤ 11) × (result.place ≤ 30)) }
-{
-    let year = year_of(d);
-    let long = is_leap(1900 + year as u16);
-    let rest = d - new_year(year);
-    let month = month_of(long, rest);
-    Spot {
-        year,
-        month,
-        place: rest - month_start(long, month),
-    }
 }

@@ -4,10 +4,10 @@ ghost use Rattle.faults.specs.Refusals.{calendar_refusal};
 ghost use Rattle.dates.specs.Civil.{asked};
 ghost use Rattle.dates.specs.Weekdays.{from_monday};
 
-use crate::day::{Day, LAST_DAY};
+use crate::day::Day;
 use faults::CalendarFault;
 
-#[derive(Clone, Copy, PartialEq, Debug)]
+#[derive(Clone, Copy, PartialEq, Eq, Debug)]
 pub enum Weekday {
     Monday,
     Tuesday,
@@ -23,10 +23,8 @@ impl Day {
     pub fn weekday(self) -> Result<Weekday, CalendarFault>
         ensures { result_map_both from_monday calendar_refusal result ≡ asked self.0 (self.0 % 7) }
     {
-        if self.0 > LAST_DAY {
-            return Err(CalendarFault::DayAbove(self.0));
-        }
-        Ok(match self.0 % 7 {
+        let Day(number) = self.checked()?;
+        Ok(match number % 7 {
             0 => Weekday::Monday,
             1 => Weekday::Tuesday,
             2 => Weekday::Wednesday,

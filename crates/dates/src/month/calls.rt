@@ -1,27 +1,64 @@
-ghost use Rattle.std.specs.Prelude.{◌≡◌, ℕ, ◌<◌, ◌≤◌};
+ghost use Rattle.std.specs.Prelude.{◌≡◌, ℕ, ◌+◌, ◌/◌, ◌%◌, ◌<◌, ◌≤◌};
 ghost use Rattle.std.specs.Option.{option_map as option_mapped};
 ghost use Rattle.std.specs.Result.{result_map_both};
 ghost use Rattle.faults.specs.Refusals.{calendar_refusal};
 ghost use Rattle.dates.specs.Civil.{asked};
-ghost use Rattle.dates.specs.Months.{first_of, len_of, cut_to, month_answer, later_answer, earlier_answer};
+ghost use Rattle.dates.specs.Months.{first_of, len_of, cut_to, month_no, month_answer, later_answer, earlier_answer};
 ghost use Rattle.dates.specs.MonthPlaces.{spot_of_place, spot_of_day};
 
-use crate::day::{Day, LAST_DAY};
-use crate::gregorian::{is_leap, month_len, month_start, new_year, spot_of};
+use crate::day::Day;
+use crate::gregorian::{is_leap, new_year, year_of};
 use crate::month::{Month, MonthPlace};
 use faults::CalendarFault;
+
+/// The days of a common year before each of its months.
+const STARTS: [u16; 12] = [0, 31, 59, 90, 120, 151, 181, 212, 243, 273, 304, 334];
+
+/// The lengths of the months of a common year.
+const LENGTHS: [u8; 12] = [31, 28, 31, 30, 31, 30, 31, 31, 30, 31, 30, 31];
 
 impl Month {
     /// A month of a year from 1900 to 2199; any other is refused.
     pub fn of(year: u16, month: u8) -> Result<Month, CalendarFault>
         ensures { result_map_both (λ m. m.index) calendar_refusal result ≡ month_answer year month }
     {
-        if year < 1900 || year > 2199 || month < 1 || month > 12 {
+        if !(1900..=2199).contains(&year) || !(1..=12).contains(&month) {
             return Err(CalendarFault::BadEntry);
         }
         Ok(Month {
-            index: (year as u32 - 1900) * 12 + (month as u32 - 1),
+            index: u32::from(year - 1900) * 12 + u32::from(month - 1),
         })
+    }
+
+    /// The month in which a day lies. No month is longer than 31 days, so that the guess is at most one month too early.
+    fn holding(d: u32) -> Month
+        requires { d ≤ 109572 }
+        ensures { result.index ≡ month_no d }
+    {
+        let year = year_of(d);
+        let guess = Month {
+            index: 12 * year + (d - new_year(year)) / 31,
+        };
+        match guess.later(1) {
+            Some(next) if next.first() <= d => next,
+            _ => guess,
+        }
+    }
+
+    /// The month's year.
+    pub(crate) fn year(self) -> u16
+        ensures is { result ≡ 1900 + self.index / 12 }
+        ensures bound { result ≤ 2199 }
+    {
+        1900 + (self.index / 12) as u16
+    }
+
+    /// The month's number in its year, from 1.
+    pub(crate) fn number(self) -> u8
+        ensures is { result ≡ self.index % 12 + 1 }
+        ensures bound { result ≤ 12 }
+    {
+        (self.index % 12) as u8 + 1
     }
 
     /// How many days the month has.
@@ -29,19 +66,24 @@ impl Month {
         ensures is { result ≡ len_of self.index }
         ensures bound { (28 ≤ result) × (result ≤ 31) }
     {
-        month_len(
-            is_leap(1900 + (self.index / 12) as u16),
-            (self.index % 12) as usize,
-        ) as u32
+        let long = is_leap(self.year());
+        let number = self.number();
+        if long && number == 2 {
+            29
+        } else {
+            u32::from(LENGTHS[usize::from(number - 1)])
+        }
     }
 
     /// The days before the month's first.
-    fn first(self) -> u32
+    pub(crate) fn first(self) -> u32
         ensures is { result ≡ first_of self.index }
         ensures bound { result ≤ 109800 }
     {
-        let n = self.index / 12;
-        new_year(n) + month_start(is_leap(1900 + n as u16), (self.index % 12) as usize)
+        let long = is_leap(self.year());
+        let number = self.number();
+        let leap_day = u32::from(long && number > 2);
+        new_year(self.index / 12) + u32::from(STARTS[usize::from(number - 1)]) + leap_day
     }
 
     /// The month's day at a place, from 0, cut to the month's length.
@@ -67,12 +109,8 @@ impl Month {
     pub fn earlier(self, by: u32) -> Option<Month>
         ensures { option_mapped (λ m. m.index) result ≡ earlier_answer self.index by }
     {
-        if by > self.index {
-            return None;
-        }
-        Some(Month {
-            index: self.index - by,
-        })
+        let index = self.index.checked_sub(by)?;
+        Some(Month { index })
     }
 }
 
@@ -81,15 +119,11 @@ impl Day {
     pub fn month_place(self) -> Result<MonthPlace, CalendarFault>
         ensures { result_map_both spot_of_place calendar_refusal result ≡ asked self.0 (spot_of_day self.0) }
     {
-        if self.0 > LAST_DAY {
-            return Err(CalendarFault::DayAbove(self.0));
-        }
-        let spot = spot_of(self.0);
+        let Day(number) = self.checked()?;
+        let month = Month::holding(number);
         Ok(MonthPlace {
-            month: Month {
-                index: 12 * spot.year + spot.month as u32,
-            },
-            place: spot.place,
+            month,
+            place: number - month.first(),
         })
     }
 }
