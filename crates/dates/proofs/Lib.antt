@@ -8,3 +8,4 @@ pub mod RoundTrip
 pub mod Asked
 pub mod MonthShifts
 pub mod CivilMonths
+pub mod DateTexts

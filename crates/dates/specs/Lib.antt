@@ -4,3 +4,4 @@ pub mod Months
 pub mod MonthPlaces
 pub mod Weekdays
 pub mod Easter
+pub mod DateText

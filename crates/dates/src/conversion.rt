@@ -33,6 +33,7 @@ impl Day {
         Ok(CivilDate {
             year: at.month.year(),
             month: at.month.number(),
+            // Narrowed by `as`: a place in a month leaves no error that `try_from` could give.
             day: at.place as u8 + 1,
         })
     }

@@ -50,6 +50,7 @@ impl Month {
         ensures is { result ≡ 1900 + self.index / 12 }
         ensures bound { result ≤ 2199 }
     {
+        // Narrowed by `as`, here and for the number: a month's bound leaves no error that `try_from` could give.
         1900 + (self.index / 12) as u16
     }
 
@@ -66,9 +67,8 @@ impl Month {
         ensures is { result ≡ len_of self.index }
         ensures bound { (28 ≤ result) × (result ≤ 31) }
     {
-        let long = is_leap(self.year());
         let number = self.number();
-        if long && number == 2 {
+        if is_leap(self.year()) && number == 2 {
             29
         } else {
             u32::from(LENGTHS[usize::from(number - 1)])
@@ -80,9 +80,8 @@ impl Month {
         ensures is { result ≡ first_of self.index }
         ensures bound { result ≤ 109800 }
     {
-        let long = is_leap(self.year());
         let number = self.number();
-        let leap_day = u32::from(long && number > 2);
+        let leap_day = u32::from(is_leap(self.year()) && number > 2);
         new_year(self.index / 12) + u32::from(STARTS[usize::from(number - 1)]) + leap_day
     }
 

@@ -9,6 +9,6 @@ pub returns-then-number-eq2-clause-is : goal.returns-then-number-eq2-clause-is
 unfolding len_of
 returns-then-number-eq2-clause-is c = grind (arith, nat_tests, len_at (leap (1900 + c.args.self.index / 12)) c.number-number.result)
 
-pub returns-else-long-clause-is : goal.returns-else-long-clause-is
+pub returns-else-is_leap-clause-is : goal.returns-else-is_leap-clause-is
 unfolding len_of
-returns-else-long-clause-is c = grind (arith, nat_tests, len_at (leap (1900 + c.args.self.index / 12)) c.number-number.result)
+returns-else-is_leap-clause-is c = grind (arith, nat_tests, len_at (leap (1900 + c.args.self.index / 12)) c.number-number.result)
