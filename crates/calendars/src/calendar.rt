@@ -20,7 +20,6 @@ pub trait Calendar {
     fn is_good(&self, day: Day) -> Result<bool, CalendarFault>
         ensures { told calendar_refusal result ≡ asked day.0 (good (codes self.now day.0)) }
     {
-        let code = self.code(day)?;
-        Ok(code == 0)
+        Ok(self.code(day)? == 0)
     }
 }

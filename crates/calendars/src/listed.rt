@@ -86,9 +86,4 @@ impl Calendar for Listed<'_> {
             Ok(0)
         }
     }
-
-    fn is_good(&self, day: Day) -> Result<bool, CalendarFault> {
-        let code = self.code(day)?;
-        Ok(code == 0)
-    }
 }

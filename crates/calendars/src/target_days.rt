@@ -13,6 +13,7 @@ use faults::CalendarFault;
 /// The closing days of TARGET: weekends, four dates of every year, Good Friday and Easter Monday.
 pub type Target = Joint<Weekly, Joint<Yearly, EasterRule>>;
 
+#[tactic(auto, unfolding(dates::specs::Years::month_len))]
 fn yearly_holidays() -> Result<Yearly, CalendarFault>
     ensures { result_map_both (held 16) calendar_refusal result ≡ Ok target_yearly }
 {

@@ -8,11 +8,8 @@ impl Layer {
     pub fn new(number: u8) -> Layer
         ensures { result.number ≡ layer_of number }
     {
-        if number == 0 || number > 15 {
-            Layer { number: 15 }
-        } else {
-            Layer { number }
-        }
+        let number = if (1..=15).contains(&number) { number } else { 15 };
+        Layer { number }
     }
 
     pub fn number(self) -> u8

@@ -10,5 +10,6 @@ returns c =
     let z = c.args.self.now.days in
     let e = c.in_ok-easter.ensures in
     let f : SFits w32 z = search rules in
-    answered d _ _ (asked_low d _ _ e)
-    (away z d c.in_ok-easter.easter.0 f (omega arith) (omega arith) ∙ ap (λ x. days_after z x.0 d) (asked_is d _ _ e))
+    rw (c.from.ensures, c.from-2.ensures, c.from-3.ensures)
+    (answered d _ _ (asked_low d _ _ e)
+    (away z d c.in_ok-easter.easter.0 f (omega arith) (omega arith) ∙ ap (λ x. days_after z x.0 d) (asked_is d _ _ e)))
