@@ -1,8 +1,14 @@
 -- A loop that looks for an element that passes a test: what it knows after the first i elements.
-use Rattle.std.proofs.Common.{◌≡◌, ℕ, suc, ◌+◌, ◌-◌, ◌<◌, ◌≤◌, Bool, true, false, List, length, get_or, drop, Some, None, Option, sym, ◌∙◌, add-one, arith}
+use Rattle.std.proofs.Common.{◌≡◌, ℕ, suc, ◌+◌, ◌-◌, ◌<◌, ◌≤◌, Bool, true, false, ◌||◌, List, [], ◌∷◌, length, get_or, drop, Some, None, Option, refl, sym, ap, ◌∙◌, add-one, arith}
 use Rattle.std.proofs.lemmas.List.{at_drop_more, at_drop_all}
+use Rattle.std.specs.List.{list_any}
 use Rattle.calendars.specs.Rules.{any}
 use Rattle.calendars.specs.Lists.{first_place}
+
+-- the library's word for a slice's tests says the same
+pub any_is : {X : Type 0} (test : X → Bool) (xs : List X) → list_any test xs ≡ any test xs
+any_is test [] = refl
+any_is test (x ∷ xs) = ap (λ b. test x || b) (any_is test xs)
 
 module _ {X : Type 0} (test : X → Bool) (xs : List X) (i : ℕ) (so_far : any test (drop i xs) ≡ any test xs) where
   -- the element at i passes
