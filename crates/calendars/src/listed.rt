@@ -24,6 +24,7 @@ fn breaks_rise(days: &[Day], i: usize) -> bool
 }
 
 /// Refuses at the first day that does not rise or lies too late.
+#[tactic(auto, using(crate::proofs::Scans::first_more, crate::proofs::Scans::first_done))]
 fn check_rising(days: &[Day]) -> Result<(), CalendarFault>
     ensures { told calendar_refusal result ≡ list_answer days.now }
 {

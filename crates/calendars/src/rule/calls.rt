@@ -37,6 +37,7 @@ impl<E: Entry, const N: usize> Rule<E, N> {
     }
 
     /// Whether some entry closes the day.
+    #[tactic(auto, using(crate::proofs::Scans::any_is))]
     fn is_closed(&self, day: Day) -> Result<bool, CalendarFault>
         ensures { told calendar_refusal result ≡ asked day.0 (any (λ e. E.Entry.closes e day.0) (held self.now).entries) }
     {
