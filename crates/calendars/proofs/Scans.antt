@@ -1,8 +1,14 @@
 -- A loop that looks for an element that passes a test: what it knows after the first i elements.
-use Rattle.std.proofs.Common.{◌≡◌, ℕ, suc, ◌+◌, ◌-◌, ◌<◌, ◌≤◌, Bool, true, false, List, length, get_or, drop, Some, None, Option, sym, ◌∙◌, add-one, arith}
+use Rattle.std.proofs.Common.{◌≡◌, ℕ, suc, ◌+◌, ◌-◌, ◌<◌, ◌≤◌, Bool, true, false, cond, ◌||◌, List, [], ◌∷◌, length, get_or, drop, Some, None, refl, sym, ap, ◌∙◌, add-one, arith}
 use Rattle.std.proofs.lemmas.List.{at_drop_more, at_drop_all}
+use Rattle.std.specs.List.{list_any}
 use Rattle.calendars.specs.Rules.{any}
 use Rattle.calendars.specs.Lists.{first_place}
+
+-- the library's word for a slice's tests says the same
+pub any_is : {X : Type 0} (test : X → Bool) (xs : List X) → list_any test xs ≡ any test xs
+any_is test [] = refl
+any_is test (x ∷ xs) = ap (λ b. test x || b) (any_is test xs)
 
 module _ {X : Type 0} (test : X → Bool) (xs : List X) (i : ℕ) (so_far : any test (drop i xs) ≡ any test xs) where
   -- the element at i passes
@@ -17,19 +23,12 @@ module _ {X : Type 0} (test : X → Bool) (xs : List X) (i : ℕ) (so_far : any 
   pub any_none : length xs ≤ i → any test xs ≡ false
   any_none l = sym so_far ∙ at_drop_all (any test) xs i l
 
--- A loop over the places below n that stops at the first where a test holds.
-module _ (test : ℕ → Bool) (n i : ℕ) (r : Option ℕ) (so_far : first_place test i (n - i) ≡ r) where
-  -- the test holds at i
-  pub first_here : i < n → test i ≡ true → r ≡ Some i
-  unfolding first_place
-  first_here l t = let e : n - i ≡ suc (n - (i + 1)) = omega arith in let f = rw e at so_far in grind (arith, f)
+-- the first place from i on is i itself where the test holds there, else the first from i + 1 on
+pub first_more : (test : ℕ → Bool) (i n : ℕ) → i < n → first_place test i (n - i) ≡ cond (test i) (Some i) (first_place test (i + 1) (n - (i + 1)))
+unfolding first_place
+first_more test i n l = let e : n - i ≡ suc (n - (i + 1)) = omega arith in rw (e, add-one) refl
 
-  -- it does not
-  pub first_next : i < n → test i ≡ false → first_place test (i + 1) (n - (i + 1)) ≡ r
-  unfolding first_place
-  first_next l t = let e : n - i ≡ suc (n - (i + 1)) = omega arith in let f = rw e at so_far in rw add-one (grind (arith, f, add-one i))
-
-  -- there is no place left
-  pub first_none : n ≤ i → r ≡ None
-  unfolding first_place
-  first_none l = let e : n - i ≡ 0 = omega arith in sym (rw e at so_far)
+-- there is no place left
+pub first_done : (test : ℕ → Bool) (i k : ℕ) → k ≡ 0 → first_place test i k ≡ None
+unfolding first_place
+first_done test i k e = rw e refl

@@ -1,9 +1,14 @@
 -- The listed calendar: days that rise strictly, up to the last day.
-use Rattle.std.specs.Prelude.{ℕ, zero, suc, ◌-◌, ◌≤◌, Bool, cond, ◌&&◌, ◌||◌, List, [], ◌∷◌, length, is_ok, Some, None, Ok, Option, Result, nat_eq, nat_le, nat_lt, slice_index_or}
+use Rattle.std.specs.Prelude.{ℕ, zero, suc, ◌-◌, Bool, cond, ◌&&◌, ◌||◌, List, [], ◌∷◌, length, is_ok, Some, None, Ok, Option, Result, nat_eq, nat_le, nat_lt, slice_index_or}
 use Rattle.faults.specs.Refusals.{Refusal, refuse}
 use Rattle.dates.specs.declared.day.Day.{Day}
-use Rattle.calendars.specs.Codes.{closing, closing_small}
+use Rattle.calendars.specs.declared.listed.Listed.{Listed}
+use Rattle.calendars.specs.Codes.{closing}
 use Rattle.calendars.specs.Rules.{Held, any}
+
+-- what a listed calendar of the code holds
+abbrev pub held_days : Listed → Held Day
+held_days l = record { entries = l.days.now; layer = l.layer.number }
 
 -- a listed day is closed
 abbrev pub listed : List Day → ℕ → Bool
@@ -11,9 +16,6 @@ listed days d = any (λ x. nat_eq x.0 d) days
 
 abbrev pub listed_code : List Day → ℕ → ℕ → ℕ
 listed_code days layer d = closing (listed days d) layer
-
-pub listed_small : (days : List Day) (layer : ℕ) → layer ≤ 15 → (d : ℕ) → listed_code days layer d ≤ 15
-listed_small days layer h d = closing_small (listed days d) layer h
 
 -- the day at place i
 abbrev pub listed_at : List Day → ℕ → ℕ

@@ -1,5 +1,5 @@
 -- The calendar of the program: TARGET's closing days.
-use Rattle.std.specs.Prelude.{ℕ, Bool, true, false, List, [], ◌∷◌, take, pos, negsuc}
+use Rattle.std.specs.Prelude.{ℕ, Bool, true, false, List, [], ◌∷◌, pos, negsuc}
 use Rattle.calendars.specs.declared.weekly.Weekly.{Weekly}
 use Rattle.calendars.specs.declared.rule.Rule.{Rule}
 use Rattle.calendars.specs.declared.joint.Joint.{Joint}
@@ -7,7 +7,7 @@ use Rattle.calendars.specs.declared.month_day.MonthDay.{MonthDay}
 use Rattle.calendars.specs.declared.easter_offset.EasterOffset.{EasterOffset}
 use Rattle.calendars.specs.Codes.{over}
 use Rattle.calendars.specs.Weeks.{weekly_code}
-use Rattle.calendars.specs.Rules.{Held, rule_code}
+use Rattle.calendars.specs.Rules.{Held, held, rule_code}
 use Rattle.calendars.specs.Entries.{month_day_closes, offset_closes}
 
 -- Saturday and Sunday
@@ -36,11 +36,7 @@ layered week yearly easter =
 abbrev pub target_code : ℕ → ℕ
 target_code = layered (weekly_code target_weekend 1) target_yearly target_easter
 
--- what a rule of the code holds
-abbrev pub held : {E : Type 0} (n : ℕ) → Rule E n → Held E
-held n r = record { entries = take r.count r.entries; layer = r.layer.number }
-
 -- the codes of a calendar that is put together so
 abbrev pub target_codes : Joint Weekly (Joint (Rule MonthDay 16) (Rule EasterOffset 8)) → ℕ → ℕ
 target_codes t =
-    layered (weekly_code t.left.closed t.left.layer.number) (held 16 t.right.left) (held 8 t.right.right)
+    layered (weekly_code t.left.closed t.left.layer.number) (held t.right.left) (held t.right.right)

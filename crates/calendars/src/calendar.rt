@@ -14,13 +14,15 @@ pub trait Calendar {
     /// No code is above 15.
     ghost small: { (s : Self) (d : ℕ) → codes s d ≤ 15 };
 
+    /// The code of a day.
+    // A number, since the rules define the code as one: it is printed, and packed in four bits.
     fn code(&self, day: Day) -> Result<u8, CalendarFault>
         ensures { told calendar_refusal result ≡ asked day.0 (codes self.now day.0) };
 
+    /// Whether a day's code says that it is good.
     fn is_good(&self, day: Day) -> Result<bool, CalendarFault>
         ensures { told calendar_refusal result ≡ asked day.0 (good (codes self.now day.0)) }
     {
-        let code = self.code(day)?;
-        Ok(code == 0)
+        Ok(self.code(day)? == 0)
     }
 }

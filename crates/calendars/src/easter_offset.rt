@@ -6,7 +6,7 @@ use dates::Day;
 use faults::CalendarFault;
 
 /// A number of days from Easter Sunday, before it if below 0, as an entry of the Easter rule; any number fits.
-#[derive(Clone, Copy, Default)]
+#[derive(Clone, Copy, Default, PartialEq)]
 pub struct EasterOffset {
     pub days: i32,
 }
@@ -22,15 +22,15 @@ impl Entry for EasterOffset {
     ghost closes = { offset_closes };
 
     fn is_possible(&self) -> bool {
-        self.days >= -60 && self.days <= 60
+        (-60..=60).contains(&self.days)
     }
 
     fn clashes_with(&self, other: &EasterOffset) -> bool {
-        self.days == other.days
+        self == other
     }
 
     fn closes_on(&self, day: Day) -> Result<bool, CalendarFault> {
         let easter = day.easter()?;
-        Ok(day.0 as i64 - easter.0 as i64 == self.days as i64)
+        Ok(i64::from(day.0) - i64::from(easter.0) == i64::from(self.days))
     }
 }

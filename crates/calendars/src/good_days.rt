@@ -8,8 +8,5 @@ use dates::Day;
 pub fn is_good_day<K: Calendar>(calendar: &K, day: Day) -> bool
     ensures { result ≡ (nat_le day.0 109572 && good (K.Calendar.codes calendar.now day.0)) }
 {
-    match calendar.is_good(day) {
-        Ok(good) => good,
-        Err(_) => false,
-    }
+    calendar.is_good(day).unwrap_or(false)
 }

@@ -13,6 +13,7 @@ pub struct Joint<L, R> {
 }
 
 impl<L, R> Joint<L, R> {
+    /// The two as one.
     pub fn new(left: L, right: R) -> Joint<L, R>
         ensures { result ≡ record { left = left; right = right } }
     {

@@ -1,9 +1,7 @@
 ghost use Rattle.std.specs.Prelude.{◌≡◌, ℕ, ◌<◌, ◌≤◌, [], length};
 ghost use Rattle.faults.specs.Refusals.{told, calendar_refusal};
-ghost use Rattle.dates.specs.declared.day.Day.{Day};
-ghost use Rattle.calendars.specs.Codes.{layer_of};
-ghost use Rattle.calendars.specs.Rules.{Held};
-ghost use Rattle.calendars.specs.Lists.{listed, listed_code, listed_small, breaks, list_answer, after_replace};
+ghost use Rattle.calendars.specs.Codes.{layer_of, closing_small};
+ghost use Rattle.calendars.specs.Lists.{held_days, listed_code, breaks, list_answer, after_replace};
 
 use crate::calendar::Calendar;
 use crate::layer::Layer;
@@ -26,9 +24,11 @@ fn breaks_rise(days: &[Day], i: usize) -> bool
 }
 
 /// Refuses at the first day that does not rise or lies too late.
+#[tactic(auto, using(crate::proofs::Scans::first_more, crate::proofs::Scans::first_done))]
 fn check_rising(days: &[Day]) -> Result<(), CalendarFault>
     ensures { told calendar_refusal result ≡ list_answer days.now }
 {
+    // An index loop: the refusal names the place, and each day is compared with the one before it.
     for i in 0..days.len() {
         if breaks_rise(days, i) {
             return Err(CalendarFault::NotRising(i));
@@ -37,22 +37,10 @@ fn check_rising(days: &[Day]) -> Result<(), CalendarFault>
     Ok(())
 }
 
-/// Whether the day is in the list.
-fn is_listed(days: &[Day], day: Day) -> bool
-    ensures { result ≡ listed days.now day.0 }
-{
-    for listed in days {
-        if listed.0 == day.0 {
-            return true;
-        }
-    }
-    false
-}
-
 impl<'a> Listed<'a> {
     /// A calendar without days.
     pub fn new(layer: u8) -> Listed<'a>
-        ensures { ◌≡◌ {A = Held Day} (record { entries = result.days.now; layer = result.layer.number }) (record { entries = []; layer = layer_of layer }) }
+        ensures { held_days result ≡ record { entries = []; layer = layer_of layer } }
     {
         Listed {
             days: &[],
@@ -63,7 +51,7 @@ impl<'a> Listed<'a> {
     /// Another list in the place of the old one; a refusal leaves that in force.
     pub fn replace(&mut self, days: &'a [Day]) -> Result<(), CalendarFault>
         ensures answer { told calendar_refusal result ≡ list_answer days.now }
-        ensures after { ◌≡◌ {A = Held Day} (record { entries = self.new.days.now; layer = self.new.layer.number }) (after_replace (record { entries = self.old.days.now; layer = self.old.layer.number }) days.now) }
+        ensures after { held_days self.new ≡ after_replace (held_days self.old) days.now }
     {
         check_rising(days)?;
         self.days = days;
@@ -74,21 +62,12 @@ impl<'a> Listed<'a> {
 impl Calendar for Listed<'_> {
     ghost codes = { λ s. listed_code s.days.now s.layer.number };
 
-    ghost small = { λ s d. listed_small s.days.now s.layer.number s.layer.within.1 d };
+    ghost small = { λ s d. closing_small _ _ s.layer.within.1 };
 
     fn code(&self, day: Day) -> Result<u8, CalendarFault> {
         if day.0 > LAST_DAY {
             return Err(CalendarFault::DayAbove(day.0));
         }
-        if is_listed(self.days, day) {
-            Ok(self.layer.number())
-        } else {
-            Ok(0)
-        }
-    }
-
-    fn is_good(&self, day: Day) -> Result<bool, CalendarFault> {
-        let code = self.code(day)?;
-        Ok(code == 0)
+        Ok(self.layer.code(self.days.contains(&day)))
     }
 }

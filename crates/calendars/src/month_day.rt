@@ -6,7 +6,7 @@ use dates::{CivilDate, Day};
 use faults::CalendarFault;
 
 /// A date of every year, as an entry of the yearly rule; any numbers fit.
-#[derive(Clone, Copy, Default)]
+#[derive(Clone, Copy, Default, PartialEq)]
 pub struct MonthDay {
     pub month: u8,
     pub day: u8,
@@ -33,11 +33,11 @@ impl Entry for MonthDay {
     }
 
     fn clashes_with(&self, other: &MonthDay) -> bool {
-        self.month == other.month && self.day == other.day
+        self == other
     }
 
     fn closes_on(&self, day: Day) -> Result<bool, CalendarFault> {
-        let date = day.civil_date()?;
-        Ok(date.month == self.month && date.day == self.day)
+        let CivilDate { month, day, .. } = day.civil_date()?;
+        Ok(*self == MonthDay { month, day })
     }
 }

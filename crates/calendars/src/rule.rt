@@ -17,16 +17,20 @@ pub trait Entry: Copy + Default {
     /// The days that it closes.
     ghost closes: { Self → ℕ → Bool };
 
+    /// Whether a rule may hold it.
     fn is_possible(&self) -> bool
         ensures { result ≡ possible self.now };
 
+    /// Whether it and another may not both be held.
     fn clashes_with(&self, other: &Self) -> bool
         ensures { result ≡ clashes self.now other.now };
 
+    /// Whether it closes the day.
     fn closes_on(&self, day: Day) -> Result<bool, CalendarFault>
         ensures { told calendar_refusal result ≡ asked day.0 (closes self.now day.0) };
 }
 
+// No `impl Model`: its value could not hold that the layer is at most 15, which the law of calendars needs.
 /// A calendar of up to `N` entries, added one at a time.
 #[derive(Drop)]
 pub struct Rule<E, const N: usize> {

@@ -1,7 +1,8 @@
 ghost use Rattle.std.specs.Prelude.{◌≡◌, Ok};
 ghost use Rattle.std.specs.Result.{result_map_both};
 ghost use Rattle.faults.specs.Refusals.{calendar_refusal};
-ghost use Rattle.calendars.specs.Target.{held, target_codes, target_yearly, target_easter, target_code};
+ghost use Rattle.calendars.specs.Rules.{held};
+ghost use Rattle.calendars.specs.Target.{target_codes, target_yearly, target_easter, target_code};
 
 use crate::easter_offset::{EasterOffset, EasterRule};
 use crate::joint::Joint;
@@ -13,8 +14,9 @@ use faults::CalendarFault;
 /// The closing days of TARGET: weekends, four dates of every year, Good Friday and Easter Monday.
 pub type Target = Joint<Weekly, Joint<Yearly, EasterRule>>;
 
+#[tactic(auto, unfolding(dates::specs::Years::month_len))]
 fn yearly_holidays() -> Result<Yearly, CalendarFault>
-    ensures { result_map_both (held 16) calendar_refusal result ≡ Ok target_yearly }
+    ensures { result_map_both held calendar_refusal result ≡ Ok target_yearly }
 {
     let mut rule = Rule::new(2);
     rule.add(MonthDay { month: 1, day: 1 })?;
@@ -25,7 +27,7 @@ fn yearly_holidays() -> Result<Yearly, CalendarFault>
 }
 
 fn easter_holidays() -> Result<EasterRule, CalendarFault>
-    ensures { result_map_both (held 8) calendar_refusal result ≡ Ok target_easter }
+    ensures { result_map_both held calendar_refusal result ≡ Ok target_easter }
 {
     let mut rule = Rule::new(3);
     rule.add(EasterOffset { days: -2 })?;

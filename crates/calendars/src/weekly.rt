@@ -1,6 +1,6 @@
 ghost use Rattle.std.specs.Prelude.{◌≡◌, ℕ, ◌≤◌};
-ghost use Rattle.calendars.specs.Codes.{layer_of};
-ghost use Rattle.calendars.specs.Weeks.{weekly_code, weekly_small};
+ghost use Rattle.calendars.specs.Codes.{layer_of, closing_small};
+ghost use Rattle.calendars.specs.Weeks.{weekly_code};
 
 use crate::calendar::Calendar;
 use crate::layer::Layer;
@@ -15,6 +15,7 @@ pub struct Weekly {
 }
 
 impl Weekly {
+    /// The rule of these marks, by a layer.
     pub fn new(closed: [bool; 7], layer: u8) -> Weekly
         ensures { weekly_code result.closed result.layer.number ≡ weekly_code closed (layer_of layer) }
     {
@@ -28,14 +29,11 @@ impl Weekly {
 impl Calendar for Weekly {
     ghost codes = { λ s. weekly_code s.closed s.layer.number };
 
-    ghost small = { λ s d. weekly_small s.closed s.layer.number s.layer.within.1 d };
+    ghost small = { λ s d. closing_small _ _ s.layer.within.1 };
 
     fn code(&self, day: Day) -> Result<u8, CalendarFault> {
         let weekday = day.weekday()?;
-        if self.closed[weekday as usize] {
-            Ok(self.layer.number())
-        } else {
-            Ok(0)
-        }
+        // An enum's place is read by `as`: no conversion is defined for it.
+        Ok(self.layer.code(self.closed[weekday as usize]))
     }
 }

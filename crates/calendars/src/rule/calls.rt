@@ -1,8 +1,8 @@
-ghost use Rattle.std.specs.Prelude.{◌≡◌, ℕ, ◌≤◌, Bool, [], length, take};
+ghost use Rattle.std.specs.Prelude.{◌≡◌, ℕ, ◌≤◌, Bool, []};
 ghost use Rattle.faults.specs.Refusals.{told, calendar_refusal};
 ghost use Rattle.dates.specs.Civil.{asked};
-ghost use Rattle.calendars.specs.Codes.{layer_of};
-ghost use Rattle.calendars.specs.Rules.{Held, any, add_answer, after_add, rule_code, rule_small};
+ghost use Rattle.calendars.specs.Codes.{layer_of, closing_small};
+ghost use Rattle.calendars.specs.Rules.{held, any, add_answer, after_add, rule_code};
 
 use crate::calendar::Calendar;
 use crate::layer::Layer;
@@ -13,7 +13,7 @@ use faults::CalendarFault;
 impl<E: Entry, const N: usize> Rule<E, N> {
     /// A rule without entries.
     pub fn new(layer: u8) -> Rule<E, N>
-        ensures { ◌≡◌ {A = Held E} (record { entries = take result.count result.entries; layer = result.layer.number }) (record { entries = []; layer = layer_of layer }) }
+        ensures { held result ≡ record { entries = []; layer = layer_of layer } }
     {
         Rule {
             entries: [E::default(); N],
@@ -24,34 +24,27 @@ impl<E: Entry, const N: usize> Rule<E, N> {
 
     /// The entries that are held, in the order in which they came.
     fn held(&self) -> &[E]
-        ensures is { result.now ≡ take self.now.count self.now.entries }
+        ensures is { result.now ≡ (held self.now).entries }
     {
-        let places = &self.entries[..];
-        &places[0..self.count]
+        &self.entries[..self.count]
     }
 
     /// Whether an entry that is held clashes with this one.
     fn clashes_with_held(&self, new: &E) -> bool
-        ensures { result ≡ any (λ e. E.Entry.clashes e new.now) (take self.now.count self.now.entries) }
+        ensures { result ≡ any (λ e. E.Entry.clashes e new.now) (held self.now).entries }
     {
-        let entries = self.held();
-        for held in entries {
-            if held.clashes_with(new) {
-                return true;
-            }
-        }
-        false
+        self.held().iter().any(|held| held.clashes_with(new))
     }
 
     /// Whether some entry closes the day.
+    #[tactic(auto, using(crate::proofs::Scans::any_is))]
     fn is_closed(&self, day: Day) -> Result<bool, CalendarFault>
-        ensures { told calendar_refusal result ≡ asked day.0 (any (λ e. E.Entry.closes e day.0) (take self.now.count self.now.entries)) }
+        ensures { told calendar_refusal result ≡ asked day.0 (any (λ e. E.Entry.closes e day.0) (held self.now).entries) }
     {
         if day.0 > LAST_DAY {
             return Err(CalendarFault::DayAbove(day.0));
         }
-        let entries = self.held();
-        for held in entries {
+        for held in self.held() {
             if held.closes_on(day)? {
                 return Ok(true);
             }
@@ -61,8 +54,8 @@ impl<E: Entry, const N: usize> Rule<E, N> {
 
     /// One entry more; a refusal leaves the rule as it was.
     pub fn add(&mut self, entry: E) -> Result<(), CalendarFault>
-        ensures answer { told calendar_refusal result ≡ add_answer N E.Entry.possible E.Entry.clashes (take self.old.count self.old.entries) entry }
-        ensures after { ◌≡◌ {A = Held E} (record { entries = take self.new.count self.new.entries; layer = self.new.layer.number }) (after_add (told calendar_refusal result) (record { entries = take self.old.count self.old.entries; layer = self.old.layer.number }) entry) }
+        ensures answer { told calendar_refusal result ≡ add_answer N E.Entry.possible E.Entry.clashes (held self.old).entries entry }
+        ensures after { held self.new ≡ after_add (told calendar_refusal result) (held self.old) entry }
     {
         if self.count == N {
             return Err(CalendarFault::RuleFull);
@@ -77,15 +70,11 @@ impl<E: Entry, const N: usize> Rule<E, N> {
 }
 
 impl<E: Entry, const N: usize> Calendar for Rule<E, N> {
-    ghost codes = { λ s. rule_code E.Entry.closes (take s.count s.entries) s.layer.number };
+    ghost codes = { λ s. rule_code E.Entry.closes (held s).entries (held s).layer };
 
-    ghost small = { λ s d. rule_small E.Entry.closes (take s.count s.entries) s.layer.number s.layer.within.1 d };
+    ghost small = { λ s d. closing_small _ _ s.layer.within.1 };
 
     fn code(&self, day: Day) -> Result<u8, CalendarFault> {
-        if self.is_closed(day)? {
-            Ok(self.layer.number())
-        } else {
-            Ok(0)
-        }
+        Ok(self.layer.code(self.is_closed(day)?))
     }
 }

@@ -1,7 +1,6 @@
-use Rattle.std.proofs.Common.{◌≡◌, drop}
-use Rattle.calendars.specs.Rules.{any}
+use Rattle.std.proofs.Common.{◌≡◌, false, take}
+use Rattle.std.specs.List.{list_any}
 use Rattle.calendars.proofs.rule.Rule.is_closed.Given as goal
 
 abbrev pub invariant-loop-held : goal.invariant-loop-held
-invariant-loop-held g l =
-    any (λ e. g.E.Entry.closes e l.day.0) (drop l.held-index l.entries) ≡ any (λ e. g.E.Entry.closes e l.day.0) l.entries
+invariant-loop-held g l = list_any (λ e. g.E.Entry.closes e l.day.0) (take l.held-index l.held-items) ≡ false
