@@ -3,6 +3,7 @@
 #![tactic(auto)]
 
 mod adjusted;
+mod adjuster;
 mod convention;
 mod following;
 mod modified_following;
@@ -11,7 +12,7 @@ mod turning;
 mod unadjusted;
 
 pub use adjusted::Adjusted;
-pub use adjusted::search::{adjust, first_good};
+pub use adjuster::Adjuster;
 pub use convention::Convention;
 pub use following::Following;
 pub use modified_following::ModifiedFollowing;
