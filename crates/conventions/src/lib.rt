@@ -9,6 +9,7 @@ mod following;
 mod modified_following;
 mod preceding;
 mod turning;
+mod turns;
 mod unadjusted;
 
 pub use adjusted::Adjusted;

@@ -10,7 +10,7 @@ use Rattle.conventions.proofs.adjuster.Adjuster.first_good.Goals as goal
 range : (g : given.Over) (x : g.row.C.Denot) (u k d : ℕ) → Ok d ≡ nth_answer (g.C.Convention.tries x) u k → (335 ≤ d) × (d ≤ 109237)
 range g x u k d =
     let law = g.met.C.Convention in
-    not_far (g.C.Convention.tries x) g.C.Convention.reach u k d (law.small x) (law.near x u d)
+    not_far (g.C.Convention.tries x) g.C.Convention.REACH u k d (law.small x) (law.near x u d)
 
 pub invariant_of-result : goal.invariant_of-result
 invariant_of-result g c =
