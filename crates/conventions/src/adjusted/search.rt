@@ -29,6 +29,7 @@ impl<'a, K: Calendar, C: Convention> Adjuster<'a, K, C> {
         ensures { result_map_both (option_mapped (λ (a : Adjusted). a.number)) generation_refusal result ≡ first_good_answer (λ d. good (K.Calendar.codes self.now.calendar.now d)) (C.Convention.tries self.now.convention.now) u.0 }
     {
         let count = self.convention.count(u)?;
+        // An index loop: a convention answers how many days it tries and which is the k-th.
         for k in 0..count {
             let day = self.convention.nth(u, k)?;
             if is_good_day(self.calendar, day) {

@@ -18,10 +18,11 @@ use faults::GenerationFault;
 fn served_number(u: Unadjusted) -> Result<u32, GenerationFault>
     ensures { told generation_refusal result ≡ (if served u.0 then Ok u.0 else refuse 45 []) }
 {
-    if u.0 < 365 || u.0 > 109_207 {
-        return Err(GenerationFault::NotTried);
+    if (365..=109_207).contains(&u.0) {
+        Ok(u.0)
+    } else {
+        Err(GenerationFault::NotTried)
     }
-    Ok(u.0)
 }
 
 /// The days that are tried for a day that conventions serve.
