@@ -1,7 +1,7 @@
 -- Adjusted days stand in the order of the unadjusted ones.
-use Rattle.std.proofs.Common.{◌≡◌, ℕ, ◌≤◌, Bool, List, Some, None, Ok, Option, Result, sym, ap, ◌∙◌, inl, inr, arith}
+use Rattle.std.proofs.Common.{◌≡◌, ℕ, ◌≤◌, Bool, List, Some, None, Ok, Option, sym, ap, inl, inr, arith}
 use Rattle.std.proofs.lemmas.Bool.{cases_Bool}
-use Rattle.std.specs.Option.{option_map}
+use Rattle.std.specs.Option.{option_map, ok_or}
 use Rattle.faults.specs.declared.origins.GenerationFault.{GenerationFault}
 use Rattle.conventions.specs.declared.adjusted.Adjusted.{Adjusted}
 use Rattle.conventions.specs.Tries.{Served, served, first_good}
@@ -32,16 +32,12 @@ abbrev pub Ordered : (ℕ → Bool) → (ℕ → List ℕ) → Type 0
 Ordered good tries =
     (u v a b : ℕ) → Served u → Served v → u ≤ v → first_good good (tries u) ≡ Some a → first_good good (tries v) ≡ Some b → a ≤ b
 
-pub adjusted_laws : (good : ℕ → Bool) (tries : ℕ → List ℕ) → Ordered good tries
-    → (u : ℕ) (o : Option Adjusted) (x : Adjusted) → o ≡ Some x → Ok (option_map (λ (a : Adjusted). a.number) o) ≡ first_good_answer good tries u
-    → record {
-      is : Ok x.number ≡ adjust_answer good tries u;
-      order : (a : Adjusted) (v b : ℕ) → ◌≡◌ {A = Result Adjusted GenerationFault} (Ok x) (Ok a) → u ≤ v → adjust_answer good tries v ≡ Ok b → a.number ≤ b;
-    }
-adjusted_laws good tries law u o x s e =
-    let f : Ok (Some x.number) ≡ first_good_answer good tries u = rw s at e in
-    let n = answered good tries u x.number f in
-    record {
-      is = n;
-      order = λ a v b p h q. (let same : x ≡ a = cc in let i = found good tries u a.number (sym n ∙ ap (λ (y : Adjusted). Ok y.number) same) in let j = found good tries v b q in law u v a.number b i.0 j.0 h i.1 j.1);
-    }
+pub adjusted_order : (good : ℕ → Bool) (tries : ℕ → List ℕ) → Ordered good tries
+    → (u : ℕ) (o : Option Adjusted) (fault : GenerationFault) → Ok (option_map (λ (x : Adjusted). x.number) o) ≡ first_good_answer good tries u
+    → (a : Adjusted) (v b : ℕ) → ok_or o fault ≡ Ok a → u ≤ v → adjust_answer good tries v ≡ Ok b → a.number ≤ b
+adjusted_order good tries law u (Some x) fault e a v b s h q =
+    let same : x ≡ a = cc in
+    let i = found good tries u x.number (sym (answered good tries u x.number e)) in
+    let j = found good tries v b q in
+    let r = law u v x.number b i.0 j.0 h i.1 j.1 in rw (ap (λ (y : Adjusted). y.number) (sym same)) r
+adjusted_order good tries law u None fault e a v b s h q = cc

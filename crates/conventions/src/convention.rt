@@ -19,16 +19,22 @@ pub trait Convention: Copy {
     /// Its meaning: the days to try, in order, for each unadjusted day.
     ghost tries: { Self → ℕ → List ℕ };
 
-    /// The letter and the reach, as the constants have them.
-    ghost letter: { ℕ };
+    /// The letter and the reach, for clauses.
+    ghost LETTER: { ℕ };
 
-    ghost reach: { ℕ };
+    ghost REACH: { ℕ };
 
     fn code_letter(&self) -> char
-        ensures { result ≡ letter };
+        ensures { result ≡ LETTER }
+    {
+        Self::LETTER
+    }
 
     fn farthest(&self) -> u32
-        ensures { result ≡ reach };
+        ensures { result ≡ REACH }
+    {
+        Self::REACH
+    }
 
     /// How many days are tried.
     fn count(&self, u: Unadjusted) -> Result<u32, GenerationFault>
@@ -39,7 +45,7 @@ pub trait Convention: Copy {
         ensures { result_map_both (λ (d : Day). d.0) generation_refusal result ≡ nth_answer (tries self.now) u.0 k };
 
     /// The reach is at most 30 days.
-    ghost small: { (c : Self) → reach ≤ 30 };
+    ghost small: { (c : Self) → REACH ≤ 30 };
 
     /// The first day tried is the unadjusted one.
     ghost first: { (c : Self) (u : ℕ) → Served u → take 1 (tries c u) ≡ u ∷ [] };
@@ -48,7 +54,7 @@ pub trait Convention: Copy {
     ghost run: { (c : Self) (u n : ℕ) → Served u → Run (take n (tries c u)) };
 
     /// No day tried is farther away than the reach.
-    ghost near: { (c : Self) (u d : ℕ) → Served u → Among d (tries c u) → (u ≤ d + reach) × (d ≤ u + reach) };
+    ghost near: { (c : Self) (u d : ℕ) → Served u → Among d (tries c u) → (u ≤ d + REACH) × (d ≤ u + REACH) };
 
     /// Whatever days are good, a later day never comes to an earlier one.
     ghost order: { (c : Self) (good : ℕ → Bool) (u v a b : ℕ) → Served u → Served v → u ≤ v → first_good good (tries c u) ≡ Some a → first_good good (tries c v) ≡ Some b → a ≤ b };

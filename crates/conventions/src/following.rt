@@ -1,53 +1,42 @@
+ghost use Rattle.std.specs.Prelude.{◌+◌};
 ghost use Rattle.conventions.specs.Turns.{following};
-ghost use Rattle.conventions.specs.ConventionLaws.{following_laws};
+ghost use Rattle.conventions.specs.ConventionLaws.{following_ending, following_laws};
 ghost use Rattle.std.proofs.Common.{rules};
 
-use crate::convention::Convention;
-use crate::turning::{served_number, turning_count, turning_nth};
-use crate::unadjusted::Unadjusted;
-use dates::Day;
-use faults::GenerationFault;
+use crate::turns::Turns;
 
 /// The unadjusted day and the 30 days after it.
 #[derive(Clone, Copy)]
 pub struct Following;
 
-impl Convention for Following {
+impl Turns for Following {
     const LETTER: char = 'F';
 
     const REACH: u32 = 30;
 
-    ghost tries = { λ _. following };
+    const BACK: u32 = 0;
 
-    ghost letter = { 70 };
+    ghost LETTER = { 70 };
 
-    ghost reach = { 30 };
+    ghost REACH = { 30 };
 
-    ghost small = { Prim.search rules };
+    ghost BACK = { 0 };
 
-    ghost first = { λ c. following_laws.first };
+    ghost tries = { following };
 
-    ghost run = { λ c. following_laws.run };
+    ghost last = { λ u. u + 30 };
 
-    ghost near = { λ c. following_laws.near };
+    ghost shape = { Prim.search rules };
 
-    ghost order = { λ c. following_laws.order };
+    ghost ending = { following_ending };
 
-    fn code_letter(&self) -> char {
-        Self::LETTER
-    }
+    ghost few = { Prim.search rules };
 
-    fn farthest(&self) -> u32 {
-        Self::REACH
-    }
+    ghost thirty = { Prim.search rules };
 
-    fn count(&self, u: Unadjusted) -> Result<u32, GenerationFault> {
-        let u = served_number(u)?;
-        Ok(turning_count(u + Self::REACH, 0, u))
-    }
+    ghost lawful = { following_laws };
 
-    fn nth(&self, u: Unadjusted, k: u32) -> Result<Day, GenerationFault> {
-        let u = served_number(u)?;
-        turning_nth(u + Self::REACH, 0, u, k)
+    fn last_day(&self, u: u32) -> u32 {
+        u + Self::REACH
     }
 }

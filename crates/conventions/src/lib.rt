@@ -3,15 +3,17 @@
 #![tactic(auto)]
 
 mod adjusted;
+mod adjuster;
 mod convention;
 mod following;
 mod modified_following;
 mod preceding;
 mod turning;
+mod turns;
 mod unadjusted;
 
 pub use adjusted::Adjusted;
-pub use adjusted::search::{adjust, first_good};
+pub use adjuster::Adjuster;
 pub use convention::Convention;
 pub use following::Following;
 pub use modified_following::ModifiedFollowing;

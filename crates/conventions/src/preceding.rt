@@ -1,53 +1,41 @@
 ghost use Rattle.conventions.specs.Turns.{preceding};
-ghost use Rattle.conventions.specs.ConventionLaws.{preceding_laws};
+ghost use Rattle.conventions.specs.ConventionLaws.{preceding_ending, preceding_laws};
 ghost use Rattle.std.proofs.Common.{rules};
 
-use crate::convention::Convention;
-use crate::turning::{served_number, turning_count, turning_nth};
-use crate::unadjusted::Unadjusted;
-use dates::Day;
-use faults::GenerationFault;
+use crate::turns::Turns;
 
 /// The unadjusted day and the 30 days before it.
 #[derive(Clone, Copy)]
 pub struct Preceding;
 
-impl Convention for Preceding {
+impl Turns for Preceding {
     const LETTER: char = 'P';
 
     const REACH: u32 = 30;
 
-    ghost tries = { λ _. preceding };
+    const BACK: u32 = 30;
 
-    ghost letter = { 80 };
+    ghost LETTER = { 80 };
 
-    ghost reach = { 30 };
+    ghost REACH = { 30 };
 
-    ghost small = { Prim.search rules };
+    ghost BACK = { 30 };
 
-    ghost first = { λ c. preceding_laws.first };
+    ghost tries = { preceding };
 
-    ghost run = { λ c. preceding_laws.run };
+    ghost last = { λ u. u };
 
-    ghost near = { λ c. preceding_laws.near };
+    ghost shape = { Prim.search rules };
 
-    ghost order = { λ c. preceding_laws.order };
+    ghost ending = { preceding_ending };
 
-    fn code_letter(&self) -> char {
-        Self::LETTER
-    }
+    ghost few = { Prim.search rules };
 
-    fn farthest(&self) -> u32 {
-        Self::REACH
-    }
+    ghost thirty = { Prim.search rules };
 
-    fn count(&self, u: Unadjusted) -> Result<u32, GenerationFault> {
-        let u = served_number(u)?;
-        Ok(turning_count(u, Self::REACH, u))
-    }
+    ghost lawful = { preceding_laws };
 
-    fn nth(&self, u: Unadjusted, k: u32) -> Result<Day, GenerationFault> {
-        let u = served_number(u)?;
-        turning_nth(u, Self::REACH, u, k)
+    fn last_day(&self, u: u32) -> u32 {
+        u
     }
 }

@@ -7,6 +7,7 @@ ghost use Rattle.conventions.specs.declared.adjusted.Adjusted.{Adjusted};
 ghost use Rattle.conventions.specs.FirstGood.{first_good_answer, adjust_answer};
 
 use crate::adjusted::Adjusted;
+use crate::adjuster::Adjuster;
 use crate::convention::Convention;
 use crate::unadjusted::Unadjusted;
 use calendars::{Calendar, is_good_day};
@@ -22,40 +23,32 @@ impl Adjusted {
     }
 }
 
-/// The first day tried that is good, if there is one.
-pub fn first_good<K: Calendar, C: Convention>(
-    calendar: &K,
-    convention: &C,
-    u: Unadjusted,
-) -> Result<Option<Adjusted>, GenerationFault>
-    ensures { result_map_both (option_mapped (λ (a : Adjusted). a.number)) generation_refusal result ≡ first_good_answer (λ d. good (K.Calendar.codes calendar.now d)) (C.Convention.tries convention.now) u.0 }
-{
-    let count = convention.count(u)?;
-    for k in 0..count {
-        let day = convention.nth(u, k)?;
-        if is_good_day(calendar, day) {
-            return Ok(Some(Adjusted { number: day.0 }));
+impl<'a, K: Calendar, C: Convention> Adjuster<'a, K, C> {
+    /// The first day tried that is good, if there is one.
+    pub fn first_good(&self, u: Unadjusted) -> Result<Option<Adjusted>, GenerationFault>
+        ensures { result_map_both (option_mapped (λ (a : Adjusted). a.number)) generation_refusal result ≡ first_good_answer (λ d. good (K.Calendar.codes self.now.calendar.now d)) (C.Convention.tries self.now.convention.now) u.0 }
+    {
+        let count = self.convention.count(u)?;
+        // An index loop: a convention answers how many days it tries and which is the k-th.
+        for k in 0..count {
+            let day = self.convention.nth(u, k)?;
+            if is_good_day(self.calendar, day) {
+                return Ok(Some(Adjusted { number: day.0 }));
+            }
         }
+        Ok(None)
     }
-    Ok(None)
-}
 
-/// The adjusted day; refused where no day tried is good.
-pub fn adjust<K: Calendar, C: Convention>(
-    calendar: &K,
-    convention: &C,
-    u: Unadjusted,
-) -> Result<Adjusted, GenerationFault>
-    ensures is { result_map_both (λ (a : Adjusted). a.number) generation_refusal result ≡ adjust_answer (λ d. good (K.Calendar.codes calendar.now d)) (C.Convention.tries convention.now) u.0 }
-    ensures order { (a : Adjusted) (v b : ℕ) → result ≡ Ok a → u.0 ≤ v → adjust_answer (λ d. good (K.Calendar.codes calendar.now d)) (C.Convention.tries convention.now) v ≡ Ok b → a.number ≤ b }
-{
-    let found = first_good(calendar, convention, u)?;
-    match found {
-        Some(day) => Ok(day),
-        None => Err(GenerationFault::NoGoodDay(RollAt {
+    /// The adjusted day; refused where no day tried is good.
+    pub fn adjust(&self, u: Unadjusted) -> Result<Adjusted, GenerationFault>
+        ensures is { result_map_both (λ (a : Adjusted). a.number) generation_refusal result ≡ adjust_answer (λ d. good (K.Calendar.codes self.now.calendar.now d)) (C.Convention.tries self.now.convention.now) u.0 }
+        ensures order { (a : Adjusted) (v b : ℕ) → result ≡ Ok a → u.0 ≤ v → adjust_answer (λ d. good (K.Calendar.codes self.now.calendar.now d)) (C.Convention.tries self.now.convention.now) v ≡ Ok b → a.number ≤ b }
+    {
+        let found = self.first_good(u)?;
+        found.ok_or(GenerationFault::NoGoodDay(RollAt {
             bond: 0,
             roll: 0,
             day: u.0,
-        })),
+        }))
     }
 }

@@ -2,7 +2,7 @@ use Rattle.std.proofs.Common.{ap, arith}
 use Rattle.dates.proofs.Asked.{asked_is}
 use Rattle.dates.specs.MonthPlaces.{Spot}
 use Rattle.conventions.specs.ConventionLaws.{last_low, last_high}
-use Rattle.conventions.proofs.modified_following.month_end.Goals as goal
+use Rattle.conventions.proofs.modified_following.ModifiedFollowingTurns.last_day.Goals as goal
 
 pub returns : goal.returns
 returns c =
