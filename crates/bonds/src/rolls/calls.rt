@@ -23,7 +23,7 @@ impl Terms {
     {
         let inner = self.kept_count();
         if inner > MOST_INNER {
-            return Err(SheetFault::ManyRolls(self.number as u64));
+            return Err(SheetFault::ManyRolls(u64::from(self.number)));
         }
         Ok(Rolls { terms: self, inner })
     }
@@ -31,6 +31,7 @@ impl Terms {
 
 impl Rolls {
     /// How many rolls there are.
+    #[tactic(auto, using(crate::proofs::Rolling::rolls_length))]
     pub fn count(&self) -> u32
         ensures is { result ≡ length (rolls self.now.terms) }
         ensures bound { (2 ≤ result) × (result ≤ 100) }
@@ -64,11 +65,11 @@ impl Rolls {
         if i > self.inner {
             return None;
         }
-        let day = self.terms.shifted(self.periods(i))?;
-        Some(Unadjusted(day))
+        self.terms.shifted(self.periods(i)).map(Unadjusted)
     }
 
     /// How many good days before roll i its fixing lies; the last roll has no fixing.
+    #[tactic(auto, using(crate::proofs::Rolling::rolls_length))]
     pub fn lag(&self, i: u32) -> u32
         ensures is { result ≡ lag_of self.now.terms i }
         ensures bound { result ≤ most_lag }

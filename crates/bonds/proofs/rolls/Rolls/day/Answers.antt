@@ -12,11 +12,8 @@ returns-then-i-self c = grind (arith, nat_tests, rolls_length c.args.self.now.te
 pub returns-then-i-self-2 : goal.returns-then-i-self-2
 returns-then-i-self-2 c = grind (arith, nat_tests, rolls_length c.args.self.now.terms)
 
-pub returns-in_err-day : goal.returns-in_err-day
-returns-in_err-day c = grind (arith, nat_tests, roll_reached c.args.self.now.terms c.args.i (omega arith) (omega arith))
-
 pub returns : goal.returns
 returns c =
     let t = c.args.self.now.terms in
     let b = roll_between t c.args.i (omega arith) (omega arith) in
-    grind (arith, nat_tests, rolls_length t, roll_reached t c.args.i (omega arith) (omega arith))
+    grind (arith, nat_tests, rolls_length t, roll_reached t c.args.i (omega arith) (omega arith), c.map.ensures.cases)
