@@ -1,6 +1,7 @@
 -- How many rolls there are, and which is the i-th.
 use Rattle.std.specs.Option.{MatchOption, unwrap_or, option_eq}
 use Rattle.std.proofs.Common.{Option, eqb, min, ◌≡◌, ℕ, zero, suc, ◌+◌, ◌-◌, ◌<◌, ◌≤◌, Bool, true, false, cond, not, List, [], ◌∷◌, length, get_or, Some, None, sym, refl, ap, ◌∙◌, inl, inr, arith}
+use Rattle.std.proofs.lemmas.Option.{cond_some}
 use Rattle.std.proofs.lemmas.Bool.Decides.{nat_tests}
 use Rattle.std.proofs.lemmas.Bool.{cases_lt, cases_Bool, both_ways}
 use Rattle.std.proofs.lemmas.List.{length_push, get_or_push, get_or_append_left}
@@ -10,8 +11,8 @@ use Rattle.bonds.specs.declared.terms.Terms.{Terms}
 use Rattle.bonds.specs.Rolls.{counts_back, is_back, other_end, shifted, between, regular, has_stub, less, kept, rolls}
 use Rattle.bonds.specs.Reached.{reached, shift_answer}
 use Rattle.bonds.specs.RollLaws.{Rising, Spanning, Complete}
-use Rattle.bonds.proofs.Passing.{whole, whole_length, back_when, forth_when, less_first, less_last, Edge, edge, edge_passing}
-use Rattle.bonds.proofs.Shifting.{fails_on, forth_rises, back_falls, outside, none_outside, present, far_out}
+use Rattle.bonds.proofs.Passing.{whole, whole_length, back_at, forth_at, less_first, less_last, Edge, edge, edge_passing}
+use Rattle.bonds.proofs.Shifting.{fails_on, forth_rises, back_falls, outside, none_outside, far_out}
 
 abbrev pub count : Terms → ℕ
 count t = length (regular t)
@@ -45,10 +46,10 @@ among t k a h =
     elim (cases_Bool (is_back t)) [
       | inl b ↦
           (let e : count t - (count t - k) ≡ k = omega arith in
-          (count t - k, omega arith, at (count t - k) ∙ back_when (is_back t) (shifted t) (count t) (count t - k) b (omega arith) ∙ ap (shifted t) e))
+          (count t - k, omega arith, at (count t - k) ∙ back_at (is_back t) (shifted t) (count t) (count t - k) b (omega arith) ∙ ap (shifted t) e))
       | inr b ↦
           (let e : suc (k - 1) ≡ k = omega arith in
-          (k - 1, omega arith, at (k - 1) ∙ forth_when (is_back t) (shifted t) (count t) (k - 1) b (omega arith) ∙ ap (shifted t) e))
+          (k - 1, omega arith, at (k - 1) ∙ forth_at (is_back t) (shifted t) (count t) (k - 1) b (omega arith) ∙ ap (shifted t) e))
     ]
   where
     at : (i : ℕ) → get_or (regular t) i 0 ≡ get_or (whole (is_back t) (shifted t) (count t)) i 0
@@ -91,7 +92,7 @@ count_first t m (Some i) h = omega (arith, h.1, stops t i (passed t i h.3) h.2)
 -- if the next shift leads out of the calendars, there is a stub
 pub stub_is : (t : Terms) (n : ℕ) (o : Option ℕ) → n ≡ count t → o ≡ shift_answer t (n + 1) → not (option_eq eqb o (Some (other_end t))) ≡ has_stub t
 stub_is t n None e h = let s : n + 1 ≡ suc (count t) = omega arith in sym (ap not (rw s at (none_outside t (n + 1) h).end))
-stub_is t n (Some x) e h = let s : n + 1 ≡ suc (count t) = omega arith in let p = rw s at (present _ _ _ h).1 in rw p
+stub_is t n (Some x) e h = let s : n + 1 ≡ suc (count t) = omega arith in let p = rw s at (cond_some _ _ _ (sym h)).1 in rw (← p)
 
 -- how many of n regular dates are left by a stub
 abbrev pub left : Stub → ℕ → ℕ
@@ -142,11 +143,11 @@ kept_between t k a b = (at_count t).below k a (omega (arith, (kept_near t).0))
 kept_back : (t : Terms) (i : ℕ) → is_back t ≡ true → i < length (kept t) → get_or (kept t) i 0 ≡ shifted t (length (kept t) - i)
 kept_back t i b h =
     ap (λ (l : List ℕ). get_or l i 0) (kept_is t)
-    ∙ back_when (is_back t) (shifted t) (inner t) i b (omega (arith, kept_length t))
+    ∙ back_at (is_back t) (shifted t) (inner t) i b (omega (arith, kept_length t))
     ∙ ap (λ (n : ℕ). shifted t (n - i)) (sym (kept_length t))
 
 kept_forth : (t : Terms) (i : ℕ) → is_back t ≡ false → i < length (kept t) → get_or (kept t) i 0 ≡ shifted t (suc i)
-kept_forth t i b h = ap (λ (l : List ℕ). get_or l i 0) (kept_is t) ∙ forth_when (is_back t) (shifted t) (inner t) i b (omega (arith, kept_length t))
+kept_forth t i b h = ap (λ (l : List ℕ). get_or l i 0) (kept_is t) ∙ forth_at (is_back t) (shifted t) (inner t) i b (omega (arith, kept_length t))
 
 pub rolls_length : (t : Terms) → length (rolls t) ≡ length (kept t) + 2
 unfolding rolls

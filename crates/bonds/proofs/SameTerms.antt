@@ -81,14 +81,16 @@ terms_are b t e r o = by (in_range b) refl (in_order b) refl r o
 pub whole_bond : (b c : Bond) → c ≡ b → in_range b ≡ true → in_order b ≡ true → Ok c ≡ checked b
 whole_bond b c e r o = ap Ok e ∙ sym (rw (r, o) refl)
 
--- the code of the stub that a code gives, and the test of the other fields
-pub stub_coded : (code : ℕ) (r : Result Stub UnknownStub) (m : Result Stub SheetFault) (s : Stub) (Q : UnknownStub → Type 0)
-    → r ≡ stub_answer code → MatchResult r (λ x. m ≡ Ok x) Q → is_ok m ≡ is_ok r → m ≡ Ok s → (leb code 3 ≡ true) × (stub_code s ≡ code)
-stub_coded code r m s Q e h v o =
-    elim (cases_Bool (leb code 3)) [
-      | inl b ↦ (let a : r ≡ Ok (stub_of code) = e ∙ rw b in let k : m ≡ Ok (stub_of code) = MatchResult-at_ok _ _ _ a h in let z : s ≡ stub_of code = cc in (b, rw z (stub_code_of code b)))
-      | inr b ↦ (let a : r ≡ Err (record { 0 = code }) = e ∙ rw b in absurd (let z : ⊥ = cc in z))
+-- what is known once the stub's code and the other fields have passed their tests
+pub coded : (b : Bond) (r : Result Stub UnknownStub) (m : Result Stub SheetFault) (s : Stub) (Q : UnknownStub → Type 0) (rest : Bool)
+    → r ≡ stub_answer b.stub → MatchResult r (λ x. m ≡ Ok x) Q → is_ok m ≡ is_ok r → m ≡ Ok s
+    → in_range b ≡ (leb b.stub 3 && rest) → rest ≡ true → (in_range b ≡ true) × (stub_code s ≡ b.stub)
+coded b r m s Q rest e h v o i t =
+    elim (cases_Bool (leb b.stub 3)) [
+      | inl y ↦
+          (let a : r ≡ Ok (stub_of b.stub) = e ∙ rw y in
+          let k : m ≡ Ok (stub_of b.stub) = MatchResult-at_ok _ _ _ a h in
+          let z : s ≡ stub_of b.stub = cc in
+          (i ∙ rw (y, t), rw z (stub_code_of b.stub y)))
+      | inr n ↦ (let a : r ≡ Err (record { 0 = b.stub }) = e ∙ rw n in absurd (let z : ⊥ = cc in z))
     ]
-
-pub ranged : (b : Bond) (r : Bool) → leb b.stub 3 ≡ true → in_range b ≡ (leb b.stub 3 && r) → r ≡ true → in_range b ≡ true
-ranged b r s e h = e ∙ rw (s, h)

@@ -45,6 +45,7 @@ impl Bond {
         if !self.is_in_order() {
             return Err(SheetFault::BadDays(self.number));
         }
+        // The casts narrow, and lose nothing: the ranges were tested.
         Ok(Terms {
             number: self.number as u32,
             effective: self.effective.0,

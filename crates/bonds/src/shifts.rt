@@ -47,6 +47,7 @@ impl Terms {
     }
 
     /// The place of the regular dates in their months, from 0, given the anchor's month and place.
+    #[tactic(auto, unfolding(crate::specs::Rolls::place))]
     fn place(&self, at: MonthPlace) -> u32
         requires { spot_of_place at ≡ spot_of_day (anchor self.now) }
         ensures { result ≡ place self.now }
@@ -70,6 +71,7 @@ impl Terms {
     }
 
     /// The anchor shifted by k periods, if that is a day of the calendars.
+    #[tactic(auto, using(crate::proofs::Shifting::shift_is))]
     pub(crate) fn shifted(&self, k: u32) -> Option<u32>
         ensures { result ≡ shift_answer self.now k }
     {

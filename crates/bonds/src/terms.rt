@@ -9,6 +9,7 @@ pub struct Terms {
     pub(crate) number: u32,
     pub(crate) effective: u32,
     pub(crate) maturity: u32,
+    // A number and no enum of the four periods: it is only multiplied by a number of periods.
     pub(crate) months: u32,
     pub(crate) stub: Stub,
     pub(crate) month_end: bool,

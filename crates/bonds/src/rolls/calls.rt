@@ -52,6 +52,7 @@ impl Rolls {
     }
 
     /// The unadjusted day of roll i, from 0.
+    #[tactic(auto, using(crate::proofs::Rolling::rolls_length, crate::proofs::Rolling::roll_first, crate::proofs::Rolling::roll_end))]
     pub fn day(&self, i: u32) -> Option<Unadjusted>
         ensures is { result ≡ roll_at self.now.terms i }
         ensures served { IfSome result (λ u. (365 ≤ u.0) × (u.0 ≤ 109207)) }
