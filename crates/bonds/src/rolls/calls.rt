@@ -15,6 +15,7 @@ const MOST_INNER: u32 = 98;
 
 impl Terms {
     /// The rolls, unless they are more than 100.
+    #[tactic(auto, using(crate::proofs::Rolling::rolls_length, crate::proofs::Rolling::rising, crate::proofs::Rolling::complete))]
     pub fn rolls(self) -> Result<Rolls, SheetFault>
         ensures is { result_map_both (λ x. x.terms) sheet_refusal result ≡ rolls_answer self }
         ensures rising { Rising self }
