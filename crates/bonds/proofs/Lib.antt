@@ -2,4 +2,3 @@ pub mod SameTerms
 pub mod Passing
 pub mod Shifting
 pub mod Rolling
-pub mod Products

@@ -1,6 +1,6 @@
 -- The shifts that pass, where those up to one pass and those past it fail.
-use Rattle.std.proofs.Common.{◌≡◌, ℕ, zero, suc, ◌-◌, ◌<◌, ◌≤◌, Bool, true, false, ◌⊎◌, List, [], ◌∷◌, length, get_or, take, drop, sym, refl, ap, ◌∙◌, inl, inr, arith}
-use Rattle.std.proofs.lemmas.Bool.{cases_lt}
+use Rattle.std.proofs.Common.{◌≡◌, ℕ, zero, suc, ◌-◌, ◌<◌, ◌≤◌, Bool, true, false, List, [], ◌∷◌, length, get_or, take, drop, sym, refl, ap, ◌∙◌, inl, inr, arith}
+use Rattle.std.proofs.lemmas.Bool.{cases_lt, cases_Bool, both_ways, false≢true}
 use Rattle.std.proofs.lemmas.List.{length_push, get_or_push, get_or_append_left, take_at}
 use Rattle.bonds.specs.Rolls.{joined, passing}
 
@@ -29,18 +29,20 @@ whole_length back f zero = refl
 whole_length true f (suc n) = ap suc (whole_length true f n)
 whole_length false f (suc n) = length_push (whole false f n) (f (suc n)) ∙ omega (arith, whole_length false f n)
 
-pub back_at : (f : ℕ → ℕ) (n i : ℕ) → i < n → get_or (whole true f n) i 0 ≡ f (n - i)
+pub back_at : (b : Bool) (f : ℕ → ℕ) (n i : ℕ) → b ≡ true → i < n → get_or (whole b f n) i 0 ≡ f (n - i)
 unfolding whole
-back_at f zero i h = absurd (let z : ⊥ = omega arith in z)
-back_at f (suc n) zero h = let e : suc n - 0 ≡ suc n = omega arith in rw e
-back_at f (suc n) (suc i) h = let e : suc n - suc i ≡ n - i = omega arith in rw e (back_at f n i (omega arith))
+back_at false f n i q h = absurd (false≢true q)
+back_at true f zero i q h = absurd (let z : ⊥ = omega arith in z)
+back_at true f (suc n) zero q h = let e : suc n - 0 ≡ suc n = omega arith in rw e
+back_at true f (suc n) (suc i) q h = let e : suc n - suc i ≡ n - i = omega arith in rw e (back_at true f n i q (omega arith))
 
-pub forth_at : (f : ℕ → ℕ) (n i : ℕ) → i < n → get_or (whole false f n) i 0 ≡ f (suc i)
+pub forth_at : (b : Bool) (f : ℕ → ℕ) (n i : ℕ) → b ≡ false → i < n → get_or (whole b f n) i 0 ≡ f (suc i)
 unfolding whole
-forth_at f zero i h = absurd (let z : ⊥ = omega arith in z)
-forth_at f (suc n) i h =
+forth_at true f n i q h = absurd (false≢true (sym q))
+forth_at false f zero i q h = absurd (let z : ⊥ = omega arith in z)
+forth_at false f (suc n) i q h =
     elim (cases_lt i n) [
-      | inl lt ↦ get_or_append_left (whole false f n) (f (suc n) ∷ []) 0 i (omega (arith, whole_length false f n)) ∙ forth_at f n i lt
+      | inl lt ↦ get_or_append_left (whole false f n) (f (suc n) ∷ []) 0 i (omega (arith, whole_length false f n)) ∙ forth_at false f n i q lt
       | inr ge ↦ (let e : i ≡ n = omega arith in rw e (get_or_push (whole false f n) (f (suc n)) 0 n (whole_length false f n)))
     ]
 
@@ -62,30 +64,19 @@ pub record Edge (ok : ℕ → Bool) (f : ℕ → ℕ) (n c : ℕ) : Type 0 where
 
 pub edge : (ok : ℕ → Bool) (f : ℕ → ℕ) → ((c j : ℕ) → 1 ≤ c → c < j → ok (f c) ≡ false → ok (f j) ≡ false) → (n : ℕ) → (c : ℕ) × Edge ok f n c
 edge ok f on zero = (0, record { top = omega arith; below = λ j a b. absurd (let z : ⊥ = omega arith in z); above = λ j a b. absurd (let z : ⊥ = omega arith in z) })
-edge ok f on (suc n) = go (edge ok f on n)
+edge ok f on (suc n) = go (ok (f (suc n))) refl (edge ok f on n)
   where
-    far : (c j : ℕ) → c < n → ok (f (suc c)) ≡ false → c < j → ok (f j) ≡ false
-    far c j lt q a = elim (cases_lt (suc c) j) [ inl l ↦ on (suc c) j (omega arith) l q | inr g ↦ (let e : j ≡ suc c = omega arith in rw e q) ]
+    up : ok (f (suc n)) ≡ true → (j : ℕ) → 1 ≤ j → j ≤ suc n → ok (f j) ≡ true
+    up q j a b =
+        elim (cases_Bool (ok (f j))) [
+          | inl t ↦ t
+          | inr z ↦ elim (cases_lt j (suc n)) [ inl l ↦ absurd (both_ways _ (on j (suc n) a l z) q) | inr g ↦ (let e : j ≡ suc n = omega arith in rw e q) ]
+        ]
 
-    last : (c j : ℕ) → c ≡ n → ok (f (suc n)) ≡ false → c < j → j ≤ suc n → ok (f j) ≡ false
-    last c j z q a b = let e : j ≡ suc n = omega arith in rw e q
-
-    up : (c j : ℕ) → Edge ok f n c → c ≡ n → ok (f (suc n)) ≡ true → 1 ≤ j → j ≤ suc n → ok (f j) ≡ true
-    up c j e z q a b = elim (cases_lt n j) [ inl l ↦ (let w : j ≡ suc n = omega arith in rw w q) | inr g ↦ e.below j a (omega arith) ]
-
-    more : (c : ℕ) → Edge ok f n c → (c < n) ⊎ (n ≤ c) → (b : Bool) → ok (f (suc n)) ≡ b → (d : ℕ) × Edge ok f (suc n) d
-    more c e (inl lt) b q = (c, record { top = omega arith; below = e.below; above = λ j a l. far c j lt (e.above (suc c) (omega arith) lt) a })
-    more c e (inr ge) true q = (suc n, record { top = omega arith; below = λ j a b. up c j e (omega (arith, e.top)) q a b; above = λ j a b. absurd (let z : ⊥ = omega arith in z) })
-    more c e (inr ge) false q = (c, record { top = omega (arith, e.top); below = e.below; above = λ j a b. last c j (omega (arith, e.top)) q a b })
-
-    go : ((c : ℕ) × Edge ok f n c) → (c : ℕ) × Edge ok f (suc n) c
-    go p = more p.0 p.1 (cases_lt p.0 n) (ok (f (suc n))) refl
+    go : (b : Bool) → ok (f (suc n)) ≡ b → ((c : ℕ) × Edge ok f n c) → (c : ℕ) × Edge ok f (suc n) c
+    go true q p = (suc n, record { top = omega arith; below = up q; above = λ j a b. absurd (let z : ⊥ = omega arith in z) })
+    go false q p =
+        (p.0, record { top = omega (arith, p.1.top); below = p.1.below; above = λ j a b. elim (cases_lt n j) [ inl l ↦ (let e : j ≡ suc n = omega arith in rw e q) | inr g ↦ p.1.above j a g ] })
 
 pub edge_passing : (back : Bool) (ok : ℕ → Bool) (f : ℕ → ℕ) (n c : ℕ) → Edge ok f n c → passing back ok f n ≡ whole back f c
 edge_passing back ok f n c e = pass_none back ok f c n e.top e.above ∙ pass_all back ok f c e.below
-
-pub back_when : (b : Bool) (f : ℕ → ℕ) (n i : ℕ) → b ≡ true → i < n → get_or (whole b f n) i 0 ≡ f (n - i)
-back_when b f n i e h = rw e (back_at f n i h)
-
-pub forth_when : (b : Bool) (f : ℕ → ℕ) (n i : ℕ) → b ≡ false → i < n → get_or (whole b f n) i 0 ≡ f (suc i)
-forth_when b f n i e h = rw e (forth_at f n i h)

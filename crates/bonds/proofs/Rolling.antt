@@ -1,15 +1,17 @@
 -- How many rolls there are, and which is the i-th.
-use Rattle.std.proofs.Common.{◌≡◌, ℕ, zero, suc, ◌+◌, ◌-◌, ◌<◌, ◌≤◌, Bool, true, false, cond, not, List, [], ◌∷◌, length, get_or, Some, None, sym, refl, ap, ◌∙◌, inl, inr, arith}
+use Rattle.std.specs.Option.{MatchOption, unwrap_or, option_eq}
+use Rattle.std.proofs.Common.{Option, eqb, min, ◌≡◌, ℕ, zero, suc, ◌+◌, ◌-◌, ◌<◌, ◌≤◌, Bool, true, false, cond, not, List, [], ◌∷◌, length, get_or, Some, None, sym, refl, ap, ◌∙◌, inl, inr, arith}
+use Rattle.std.proofs.lemmas.Option.{cond_some}
 use Rattle.std.proofs.lemmas.Bool.Decides.{nat_tests}
 use Rattle.std.proofs.lemmas.Bool.{cases_lt, cases_Bool, both_ways}
 use Rattle.std.proofs.lemmas.List.{length_push, get_or_push, get_or_append_left}
-use Rattle.bonds.specs.declared.terms.Stub.{Stub}
-use Rattle.bonds.specs.declared.terms.Stub.TheVariants.{ShortFirst, LongFirst, ShortLast, LongLast}
+use Rattle.bonds.specs.declared.stub.Stub.{Stub}
+use Rattle.bonds.specs.declared.stub.Stub.TheVariants.{ShortFirst, LongFirst, ShortLast, LongLast}
 use Rattle.bonds.specs.declared.terms.Terms.{Terms}
-use Rattle.bonds.specs.Rolls.{counts_back, is_back, shifted, between, regular, has_stub, less, kept, rolls}
+use Rattle.bonds.specs.Rolls.{counts_back, is_back, other_end, shifted, between, regular, has_stub, less, kept, rolls}
 use Rattle.bonds.specs.Reached.{reached, shift_answer}
 use Rattle.bonds.specs.RollLaws.{Rising, Spanning, Complete}
-use Rattle.bonds.proofs.Passing.{whole, whole_length, back_when, forth_when, less_first, less_last, Edge, edge, edge_passing}
+use Rattle.bonds.proofs.Passing.{whole, whole_length, back_at, forth_at, less_first, less_last, Edge, edge, edge_passing}
 use Rattle.bonds.proofs.Shifting.{fails_on, forth_rises, back_falls, outside, none_outside, far_out}
 
 abbrev pub count : Terms → ℕ
@@ -32,8 +34,8 @@ counted t c e = ap length (regular_whole t c e) ∙ whole_length (is_back t) (sh
 at_count : (t : Terms) → Ends t (count t)
 at_count t = rw (counted t (ends t).0 (ends t).1) (ends t).1
 
-regular_is : (t : Terms) → regular t ≡ whole (is_back t) (shifted t) (count t)
-regular_is t = regular_whole t (count t) (at_count t)
+regular_all : (t : Terms) → regular t ≡ whole (is_back t) (shifted t) (count t)
+regular_all t = regular_whole t (count t) (at_count t)
 
 -- past the count no shift lies between, and up to it each is one of the regular dates
 beyond : (t : Terms) (k : ℕ) → count t < k → between t (shifted t k) ≡ false
@@ -44,14 +46,14 @@ among t k a h =
     elim (cases_Bool (is_back t)) [
       | inl b ↦
           (let e : count t - (count t - k) ≡ k = omega arith in
-          (count t - k, omega arith, at (count t - k) ∙ back_when (is_back t) (shifted t) (count t) (count t - k) b (omega arith) ∙ ap (shifted t) e))
+          (count t - k, omega arith, at (count t - k) ∙ back_at (is_back t) (shifted t) (count t) (count t - k) b (omega arith) ∙ ap (shifted t) e))
       | inr b ↦
           (let e : suc (k - 1) ≡ k = omega arith in
-          (k - 1, omega arith, at (k - 1) ∙ forth_when (is_back t) (shifted t) (count t) (k - 1) b (omega arith) ∙ ap (shifted t) e))
+          (k - 1, omega arith, at (k - 1) ∙ forth_at (is_back t) (shifted t) (count t) (k - 1) b (omega arith) ∙ ap (shifted t) e))
     ]
   where
     at : (i : ℕ) → get_or (regular t) i 0 ≡ get_or (whole (is_back t) (shifted t) (count t)) i 0
-    at i = ap (λ (l : List ℕ). get_or l i 0) (regular_is t)
+    at i = ap (λ (l : List ℕ). get_or l i 0) (regular_all t)
 
 pub complete : (t : Terms) → Complete t
 complete t k a b = elim (cases_lt (count t) k) [ inl l ↦ absurd (both_ways _ (beyond t k l) b) | inr g ↦ among t k a g ]
@@ -75,12 +77,22 @@ stops t n h f =
       | inr ge ↦ omega (arith, not_more t n h)
     ]
 
-pub passes : (t : Terms) (n : ℕ) → Passed t n → between t (shifted t (n + 1)) ≡ true → Passed t (n + 1)
-passes t n h p j x y = elim (cases_lt n j) [ inl l ↦ (let e : j ≡ n + 1 = omega arith in rw e p) | inr g ↦ h j x g ]
+-- so the count is where the first of them fails, if one does
+abbrev pub Passes : Terms → ℕ → Type 0
+Passes t n = (k : ℕ) → 0 ≤ k → k < n → between t (shifted t (k + 1)) ≡ true
+
+passed : (t : Terms) (n : ℕ) → Passes t n → Passed t n
+passed t n h j a b = let e : j - 1 + 1 ≡ j = omega arith in rw e at (h (j - 1) (omega arith) (omega arith))
+
+pub count_first : (t : Terms) (m : ℕ) (r : Option ℕ)
+    → MatchOption r (Passes t m) (λ i. (0 ≤ i) × (i < m) × (between t (shifted t (i + 1)) ≡ false) × Passes t i) → unwrap_or r m ≡ min (count t) m
+count_first t m None h = omega (arith, not_more t m (passed t m h))
+count_first t m (Some i) h = omega (arith, h.1, stops t i (passed t i h.3) h.2)
 
 -- if the next shift leads out of the calendars, there is a stub
-pub stub_out : (t : Terms) (n : ℕ) → n ≡ count t → None ≡ shift_answer t (n + 1) → true ≡ has_stub t
-stub_out t n e h = let s : n + 1 ≡ suc (count t) = omega arith in sym (ap not (rw s at (none_outside t (n + 1) h).end))
+pub stub_is : (t : Terms) (n : ℕ) (o : Option ℕ) → n ≡ count t → o ≡ shift_answer t (n + 1) → not (option_eq eqb o (Some (other_end t))) ≡ has_stub t
+stub_is t n None e h = let s : n + 1 ≡ suc (count t) = omega arith in sym (ap not (rw s at (none_outside t (n + 1) h).end))
+stub_is t n (Some x) e h = let s : n + 1 ≡ suc (count t) = omega arith in let p = rw s at (cond_some _ _ _ (sym h)).1 in rw (← p)
 
 -- how many of n regular dates are left by a stub
 abbrev pub left : Stub → ℕ → ℕ
@@ -103,8 +115,8 @@ unfolding kept
 kept_is t = go (has_stub t)
   where
     go : (s : Bool) → cond s (less t.stub (regular t)) (regular t) ≡ whole (is_back t) (shifted t) (cond s (left t.stub (count t)) (count t))
-    go true = ap (less t.stub) (regular_is t) ∙ less_whole t.stub (shifted t) (count t)
-    go false = regular_is t
+    go true = ap (less t.stub) (regular_all t) ∙ less_whole t.stub (shifted t) (count t)
+    go false = regular_all t
 
 pub kept_length : (t : Terms) → length (kept t) ≡ inner t
 kept_length t = ap length (kept_is t) ∙ whole_length (is_back t) (shifted t) (inner t)
@@ -131,11 +143,11 @@ kept_between t k a b = (at_count t).below k a (omega (arith, (kept_near t).0))
 kept_back : (t : Terms) (i : ℕ) → is_back t ≡ true → i < length (kept t) → get_or (kept t) i 0 ≡ shifted t (length (kept t) - i)
 kept_back t i b h =
     ap (λ (l : List ℕ). get_or l i 0) (kept_is t)
-    ∙ back_when (is_back t) (shifted t) (inner t) i b (omega (arith, kept_length t))
+    ∙ back_at (is_back t) (shifted t) (inner t) i b (omega (arith, kept_length t))
     ∙ ap (λ (n : ℕ). shifted t (n - i)) (sym (kept_length t))
 
 kept_forth : (t : Terms) (i : ℕ) → is_back t ≡ false → i < length (kept t) → get_or (kept t) i 0 ≡ shifted t (suc i)
-kept_forth t i b h = ap (λ (l : List ℕ). get_or l i 0) (kept_is t) ∙ forth_when (is_back t) (shifted t) (inner t) i b (omega (arith, kept_length t))
+kept_forth t i b h = ap (λ (l : List ℕ). get_or l i 0) (kept_is t) ∙ forth_at (is_back t) (shifted t) (inner t) i b (omega (arith, kept_length t))
 
 pub rolls_length : (t : Terms) → length (rolls t) ≡ length (kept t) + 2
 unfolding rolls

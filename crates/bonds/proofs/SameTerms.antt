@@ -1,17 +1,22 @@
 -- Terms are their fields: the limits that they keep add nothing.
-use Rattle.std.proofs.Common.{◌≡◌, ℕ, suc, ◌≤◌, Bool, true, false, cond, eqb, Ok, sym, refl, ap, ◌∙◌}
+use Rattle.std.proofs.Common.{◌≡◌, ℕ, suc, ◌≤◌, Bool, true, false, cond, ◌&&◌, eqb, leb, Result, Ok, Err, sym, refl, ap, ◌∙◌, inl, inr, arith}
+use Rattle.std.specs.Result.{MatchResult, is_ok}
+use Rattle.std.proofs.lemmas.Result.{MatchResult-at_ok}
+use Rattle.std.proofs.lemmas.Bool.Decides.{nat_tests}
+use Rattle.faults.specs.declared.origins.SheetFault.{SheetFault}
+use Rattle.bonds.specs.declared.stub.UnknownStub.{UnknownStub}
 use mathlib.Core.Path.{PathP}
 use mathlib.Core.HLevel.{is_prop→PathP}
-use Rattle.std.proofs.lemmas.Bool.{false≢true}
+use Rattle.std.proofs.lemmas.Bool.{false≢true, cases_Bool}
 use native.Mathlib.Bridge.{le_prop}
 use Rattle.bonds.specs.declared.bond.Bond.{Bond}
-use Rattle.bonds.specs.declared.terms.Stub.{Stub}
-use Rattle.bonds.specs.declared.terms.Stub.TheVariants.{ShortFirst, LongFirst, ShortLast, LongLast}
+use Rattle.bonds.specs.declared.stub.Stub.{Stub}
+use Rattle.bonds.specs.declared.stub.Stub.TheVariants.{ShortFirst, LongFirst, ShortLast, LongLast}
 use Rattle.bonds.specs.declared.terms.Terms.{Terms}
 use Rattle.bonds.specs.Bonds.{most_lag, in_range, in_order, checked}
 use Rattle.bonds.specs.BondTerms.{stub_code, bond_of}
 use Rattle.bonds.specs.Limits.{limits}
-use Rattle.bonds.specs.TermsOf.{stub_of, terms_by, terms_answer}
+use Rattle.bonds.specs.TermsOf.{stub_of, stub_answer, terms_by, terms_answer}
 
 -- a limit holds in one way only
 one_way : (a b c d : ℕ) (p : a ≡ c) (q : b ≡ d) (x : a ≤ b) (y : c ≤ d) → PathP (λ i. p i ≤ q i) x y
@@ -22,6 +27,9 @@ stub_of_code ShortFirst = refl
 stub_of_code LongFirst = refl
 stub_of_code ShortLast = refl
 stub_of_code LongLast = refl
+
+stub_code_of : (code : ℕ) → leb code 3 ≡ true → stub_code (stub_of code) ≡ code
+stub_code_of code h = grind (arith, nat_tests)
 
 mark_of_month_end : (m : Bool) → m ≡ eqb (cond m 1 0) 1
 mark_of_month_end true = refl
@@ -72,3 +80,17 @@ terms_are b t e r o = by (in_range b) refl (in_order b) refl r o
 -- and its every field
 pub whole_bond : (b c : Bond) → c ≡ b → in_range b ≡ true → in_order b ≡ true → Ok c ≡ checked b
 whole_bond b c e r o = ap Ok e ∙ sym (rw (r, o) refl)
+
+-- what is known once the stub's code and the other fields have passed their tests
+pub coded : (b : Bond) (r : Result Stub UnknownStub) (m : Result Stub SheetFault) (s : Stub) (Q : UnknownStub → Type 0) (rest : Bool)
+    → r ≡ stub_answer b.stub → MatchResult r (λ x. m ≡ Ok x) Q → is_ok m ≡ is_ok r → m ≡ Ok s
+    → in_range b ≡ (leb b.stub 3 && rest) → rest ≡ true → (in_range b ≡ true) × (stub_code s ≡ b.stub)
+coded b r m s Q rest e h v o i t =
+    elim (cases_Bool (leb b.stub 3)) [
+      | inl y ↦
+          (let a : r ≡ Ok (stub_of b.stub) = e ∙ rw y in
+          let k : m ≡ Ok (stub_of b.stub) = MatchResult-at_ok _ _ _ a h in
+          let z : s ≡ stub_of b.stub = cc in
+          (i ∙ rw (y, t), rw z (stub_code_of b.stub y)))
+      | inr n ↦ (let a : r ≡ Err (record { 0 = b.stub }) = e ∙ rw n in absurd (let z : ⊥ = cc in z))
+    ]

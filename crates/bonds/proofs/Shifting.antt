@@ -1,6 +1,9 @@
 -- The shifts of a bond's anchor lie in order.
-use Rattle.std.proofs.Common.{◌≡◌, ℕ, ◌+◌, ◌-◌, ◌*◌, ◌<◌, ◌≤◌, Bool, true, false, cond, eqb, ◌⊎◌, Some, None, inl, inr, mul-le-mul_right, arith}
+use Rattle.std.specs.Option.{MatchOption}
+use Rattle.std.specs.Bool.{then_some}
+use Rattle.std.proofs.Common.{sym, refl, ◌∙◌, Option, ◌≡◌, ℕ, ◌+◌, ◌-◌, ◌*◌, ◌<◌, ◌≤◌, Bool, true, false, cond, eqb, ◌⊎◌, Some, None, inl, inr, mul-le-mul_right, arith}
 use native.Mathlib.Nat.{mul-lt-mul_of_pos_left}
+use Rattle.std.proofs.lemmas.Option.{cond_some}
 use Rattle.std.proofs.lemmas.Bool.Decides.{nat_tests}
 use Rattle.std.proofs.lemmas.Bool.{cases_lt, cases_Bool}
 use Rattle.dates.specs.Years.{place_of}
@@ -93,19 +96,19 @@ outside t k h =
       | inr b ↦ past_end t k (forth_out t k b (grind (arith, nat_tests)))
     ]
 
--- what an answer tells of its test
-pub absent : (b : Bool) (x : ℕ) → None ≡ cond b (Some x) None → b ≡ false
-absent b x e = grind arith
-
-pub present : (b : Bool) (x y : ℕ) → Some y ≡ cond b (Some x) None → (b ≡ true) × (y ≡ x)
-present b x y e = grind arith
-
 -- no shift is no regular date
 pub none_outside : (t : Terms) (k : ℕ) → None ≡ shift_answer t k → Outside t k
-none_outside t k e = outside t k (absent (reached t k) (shifted t k) e)
+none_outside t k e = outside t k (grind arith)
 
-pub none_regular : (t : Terms) (k : ℕ) → None ≡ shift_answer t k → None ≡ regular_answer t k
-none_regular t k e = rw (none_outside t k e).between
+-- the shift, if it passes the test of lying between
+pub regular_is : (t : Terms) (k : ℕ) (o : Option ℕ) (r : Option ℕ) (P : ℕ → Bool → Type 0) → ((x : ℕ) (b : Bool) → P x b → b ≡ between t x)
+    → o ≡ shift_answer t k → MatchOption o (r ≡ None) (λ x. (b : Bool) × P x b × (r ≡ then_some b x)) → r ≡ regular_answer t k
+regular_is t k None r P h e m = m ∙ sym (rw (none_outside t k e).between)
+regular_is t k (Some x) r P h e m = let p = cond_some _ _ _ (sym e) in m.2 ∙ rw (h x m.0 m.1, ← p.1) (go (between t (shifted t k)))
+  where
+    go : (b : Bool) → then_some b (shifted t k) ≡ cond b (Some (shifted t k)) None
+    go true = refl
+    go false = refl
 
 -- the month that is reached, with the place in it, is the shift
 pub shift_is : (t : Terms) (k m : ℕ) → Some m ≡ month_from t (month_no (anchor t)) (t.months * k) → Some (cut_to m (place t)) ≡ shift_answer t k

@@ -1,8 +1,8 @@
 -- The bond that terms were made from.
 use Rattle.std.specs.Prelude.{ℕ, cond}
 use Rattle.bonds.specs.declared.bond.Bond.{Bond}
-use Rattle.bonds.specs.declared.terms.Stub.{Stub}
-use Rattle.bonds.specs.declared.terms.Stub.TheVariants.{ShortFirst, LongFirst, ShortLast, LongLast}
+use Rattle.bonds.specs.declared.stub.Stub.{Stub}
+use Rattle.bonds.specs.declared.stub.Stub.TheVariants.{ShortFirst, LongFirst, ShortLast, LongLast}
 use Rattle.bonds.specs.declared.terms.Terms.{Terms}
 
 -- the code of a stub

@@ -4,8 +4,8 @@ use Rattle.faults.specs.Refusals.{Refusal, refuse}
 use Rattle.dates.specs.Years.{place_of}
 use Rattle.dates.specs.Months.{month_no, len_of, cut_to}
 use Rattle.conventions.specs.declared.unadjusted.Unadjusted.{Unadjusted}
-use Rattle.bonds.specs.declared.terms.Stub.{Stub}
-use Rattle.bonds.specs.declared.terms.Stub.TheVariants.{ShortFirst, LongFirst, ShortLast, LongLast}
+use Rattle.bonds.specs.declared.stub.Stub.{Stub}
+use Rattle.bonds.specs.declared.stub.Stub.TheVariants.{ShortFirst, LongFirst, ShortLast, LongLast}
 use Rattle.bonds.specs.declared.terms.Terms.{Terms}
 
 -- with a first stub periods are counted back from maturity, with a last stub forward from the effective day

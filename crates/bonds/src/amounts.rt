@@ -12,7 +12,7 @@ impl Terms {
         ensures is { result ≡ amount self.now.face self.now.rate days }
         ensures nearest { Nearest (self.now.face * self.now.rate * days) 36000000 result }
     {
-        let product = self.face as u128 * self.rate as u128 * days as u128;
+        let product = u128::from(self.face) * u128::from(self.rate) * u128::from(days);
         ((2 * product + YEAR) / (2 * YEAR)) as u64
     }
 }

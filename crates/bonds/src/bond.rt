@@ -1,5 +1,6 @@
 use dates::Day;
 
+// Numbers, also where they stand for kinds: a bond is held as it was typed, and any number gets its answer from `terms`.
 /// A bond as it is written; any numbers fit.
 #[derive(Clone, Copy, PartialEq, Debug)]
 pub struct Bond {

@@ -1,48 +1,28 @@
-ghost use Rattle.std.specs.Prelude.{◌≡◌, if◌then◌else◌, Some, None, nat_le};
-ghost use Rattle.std.specs.Option.{option_map as option_mapped};
+ghost use Rattle.std.specs.Prelude.{◌≡◌, ◌&&◌, nat_le};
 ghost use Rattle.std.specs.Result.{result_map_both};
 ghost use Rattle.faults.specs.Refusals.{told, sheet_refusal};
 ghost use Rattle.bonds.specs.Bonds.{in_range, in_order, checked};
-ghost use Rattle.bonds.specs.BondTerms.{stub_code, bond_of};
+ghost use Rattle.bonds.specs.BondTerms.{bond_of};
 ghost use Rattle.bonds.specs.TermsOf.{terms_answer};
 
 use crate::bond::Bond;
-use crate::terms::{Stub, Terms};
+use crate::stub::Stub;
+use crate::terms::Terms;
 use faults::SheetFault;
 
 /// The greatest fixing lag.
 const MOST_LAG: u64 = 10;
 
-impl Stub {
-    /// The stub of a code from 0 to 3.
-    fn of_code(code: u64) -> Option<Stub>
-        ensures { option_mapped stub_code result ≡ (if nat_le code 3 then Some code else None) }
-    {
-        match code {
-            0 => Some(Stub::ShortFirst),
-            1 => Some(Stub::LongFirst),
-            2 => Some(Stub::ShortLast),
-            3 => Some(Stub::LongLast),
-            _ => None,
-        }
-    }
-}
-
 impl Bond {
-    /// Whether every field but the days is in its range.
+    /// Whether every field but the days and the stub is in its range.
     fn is_in_range(&self) -> bool
-        ensures { result ≡ in_range self.now }
+        ensures { in_range self.now ≡ (nat_le self.now.stub 3 && result) }
     {
-        let months = self.months;
-        let period = months == 1 || months == 3 || months == 6 || months == 12;
-        1 <= self.number
-            && self.number <= 999_999
-            && period
-            && self.stub <= 3
+        (1..=999_999).contains(&self.number)
+            && matches!(self.months, 1 | 3 | 6 | 12)
             && self.mark <= 1
             && self.lag <= MOST_LAG
-            && 1 <= self.face
-            && self.face <= 100_000_000_000
+            && (1..=100_000_000_000).contains(&self.face)
             && self.rate <= 100_000
     }
 
@@ -58,15 +38,14 @@ impl Bond {
         ensures is { told sheet_refusal result ≡ terms_answer self.now }
         ensures whole { result_map_both bond_of sheet_refusal result ≡ checked self.now }
     {
+        let stub = Stub::try_from(self.stub).map_err(|_| SheetFault::OutOfRange(self.number))?;
         if !self.is_in_range() {
             return Err(SheetFault::OutOfRange(self.number));
         }
         if !self.is_in_order() {
             return Err(SheetFault::BadDays(self.number));
         }
-        let Some(stub) = Stub::of_code(self.stub) else {
-            return Err(SheetFault::OutOfRange(self.number));
-        };
+        // The casts narrow, and lose nothing: the ranges were tested.
         Ok(Terms {
             number: self.number as u32,
             effective: self.effective.0,

@@ -8,8 +8,10 @@ mod checks;
 mod regular_dates;
 mod rolls;
 mod shifts;
+mod stub;
 mod terms;
 
 pub use bond::Bond;
 pub use rolls::Rolls;
-pub use terms::{Stub, Terms};
+pub use stub::{Stub, UnknownStub};
+pub use terms::Terms;

@@ -4,7 +4,8 @@ ghost use Rattle.dates.specs.MonthPlaces.{spot_of_place, spot_of_day};
 ghost use Rattle.bonds.specs.Rolls.{is_back, anchor, other_end, place};
 ghost use Rattle.bonds.specs.Reached.{month_from, shift_answer};
 
-use crate::terms::{Stub, Terms};
+use crate::stub::Stub;
+use crate::terms::Terms;
 use dates::{Day, Month, MonthPlace};
 
 impl Terms {
@@ -46,6 +47,7 @@ impl Terms {
     }
 
     /// The place of the regular dates in their months, from 0, given the anchor's month and place.
+    #[tactic(auto, unfolding(crate::specs::Rolls::place))]
     fn place(&self, at: MonthPlace) -> u32
         requires { spot_of_place at ≡ spot_of_day (anchor self.now) }
         ensures { result ≡ place self.now }
@@ -69,14 +71,12 @@ impl Terms {
     }
 
     /// The anchor shifted by k periods, if that is a day of the calendars.
+    #[tactic(auto, using(crate::proofs::Shifting::shift_is))]
     pub(crate) fn shifted(&self, k: u32) -> Option<u32>
-        requires { k ≤ 100 }
         ensures { result ≡ shift_answer self.now k }
     {
-        let Ok(at) = Day(self.anchor()).month_place() else {
-            return None;
-        };
-        let month = self.month_from(at.month, self.months * k)?;
+        let at = Day(self.anchor()).month_place().ok()?;
+        let month = self.month_from(at.month, self.months.checked_mul(k)?)?;
         Some(month.day_at(self.place(at)).0)
     }
 }

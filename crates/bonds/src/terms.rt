@@ -1,14 +1,7 @@
 ghost use Rattle.std.specs.Prelude.{◌<◌, ◌≤◌};
 ghost use Rattle.bonds.specs.Bonds.{most_lag};
 
-/// Where the period that does not fit lies, and whether it is joined to its neighbour.
-#[derive(Clone, Copy)]
-pub enum Stub {
-    ShortFirst,
-    LongFirst,
-    ShortLast,
-    LongLast,
-}
+use crate::stub::Stub;
 
 /// The terms of a bond whose fields are in their ranges.
 #[derive(Clone, Copy)]
@@ -16,6 +9,7 @@ pub struct Terms {
     pub(crate) number: u32,
     pub(crate) effective: u32,
     pub(crate) maturity: u32,
+    // A number and no enum of the four periods: it is only multiplied by a number of periods.
     pub(crate) months: u32,
     pub(crate) stub: Stub,
     pub(crate) month_end: bool,

@@ -15,6 +15,7 @@ const MOST_INNER: u32 = 98;
 
 impl Terms {
     /// The rolls, unless they are more than 100.
+    #[tactic(auto, using(crate::proofs::Rolling::rolls_length, crate::proofs::Rolling::rising, crate::proofs::Rolling::complete))]
     pub fn rolls(self) -> Result<Rolls, SheetFault>
         ensures is { result_map_both (λ x. x.terms) sheet_refusal result ≡ rolls_answer self }
         ensures rising { Rising self }
@@ -23,7 +24,7 @@ impl Terms {
     {
         let inner = self.kept_count();
         if inner > MOST_INNER {
-            return Err(SheetFault::ManyRolls(self.number as u64));
+            return Err(SheetFault::ManyRolls(u64::from(self.number)));
         }
         Ok(Rolls { terms: self, inner })
     }
@@ -31,6 +32,7 @@ impl Terms {
 
 impl Rolls {
     /// How many rolls there are.
+    #[tactic(auto, using(crate::proofs::Rolling::rolls_length))]
     pub fn count(&self) -> u32
         ensures is { result ≡ length (rolls self.now.terms) }
         ensures bound { (2 ≤ result) × (result ≤ 100) }
@@ -51,6 +53,7 @@ impl Rolls {
     }
 
     /// The unadjusted day of roll i, from 0.
+    #[tactic(auto, using(crate::proofs::Rolling::rolls_length, crate::proofs::Rolling::roll_first, crate::proofs::Rolling::roll_end))]
     pub fn day(&self, i: u32) -> Option<Unadjusted>
         ensures is { result ≡ roll_at self.now.terms i }
         ensures served { IfSome result (λ u. (365 ≤ u.0) × (u.0 ≤ 109207)) }
@@ -64,11 +67,11 @@ impl Rolls {
         if i > self.inner {
             return None;
         }
-        let day = self.terms.shifted(self.periods(i))?;
-        Some(Unadjusted(day))
+        self.terms.shifted(self.periods(i)).map(Unadjusted)
     }
 
     /// How many good days before roll i its fixing lies; the last roll has no fixing.
+    #[tactic(auto, using(crate::proofs::Rolling::rolls_length))]
     pub fn lag(&self, i: u32) -> u32
         ensures is { result ≡ lag_of self.now.terms i }
         ensures bound { result ≤ most_lag }

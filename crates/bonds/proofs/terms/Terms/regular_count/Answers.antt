@@ -1,15 +1,13 @@
-use Rattle.std.proofs.Common.{arith}
-use Rattle.bonds.proofs.Shifting.{absent, present}
-use Rattle.bonds.proofs.Rolling.{stops, passes, not_more}
+use Rattle.std.proofs.Common.{◌≡◌, ◌+◌, true, false, ◌∙◌, rules, tests, arith}
+use Rattle.std.proofs.lemmas.Iterator.{first_from_Range}
+use Rattle.bonds.specs.Rolls.{between, shifted}
+use Rattle.bonds.proofs.Rolling.{count_first}
 use Rattle.bonds.proofs.terms.Terms.regular_count.Goals as goal
 
-pub returns-in_default : goal.returns-in_default
-returns-in_default c =
-    omega (arith, stops c.args.self.now c.loop-n.n c.loop-n.invariant.1 (absent _ _ c.in_default.ensures))
-
-pub loop-n-preserved : goal.loop-n-preserved
-loop-n-preserved c =
-    (omega arith, passes c.args.self.now c.loop-n.n c.loop-n.invariant.1 (present _ _ _ c.in-Some.ensures).0)
-
 pub returns : goal.returns
-returns c = omega (arith, not_more c.args.self.now c.loop-n.n c.loop-n.invariant.1)
+returns c =
+    let t = c.args.self.now in
+    let f = first_from_Range _ _ _ c.find.result (λ i. between t (shifted t (i + 1)) ≡ false) (λ i. between t (shifted t (i + 1)) ≡ true) c.find.ensures.ran
+    (λ x q k. grind (arith, tests))
+    (λ x q k. (search rules, grind (arith, tests))) in
+    c.unwrap_or.ensures ∙ count_first t 100 _ f
