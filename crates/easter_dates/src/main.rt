@@ -7,14 +7,11 @@ use anyhow::anyhow;
 use dates::easter_sunday;
 
 fn main(rt: HostRuntime) -> anyhow::Result<()> {
-    for year in 1900..2200u16 {
-        let Ok(day) = easter_sunday(year) else {
-            return Err(anyhow!("no Easter"));
-        };
-        let Ok(date) = day.civil_date() else {
-            return Err(anyhow!("no such day"));
-        };
-        println!(rt; "{}-{:02}-{:02}", date.year, date.month, date.day)?;
+    for year in 1900..=2199 {
+        let date = easter_sunday(year)
+            .and_then(|day| day.civil_date())
+            .map_err(|fault| anyhow!("refusal {}", fault.number()))?;
+        println!(rt; "{date}")?;
     }
     Ok(())
 }

@@ -1,94 +1,60 @@
-use anyhow::anyhow;
-use bonds::{Bond, Rolls};
+use anyhow::{Context, anyhow, bail};
+use bonds::Bond;
 use calendars::target_calendar;
 use conventions::{
     Adjusted, Convention, Following, ModifiedFollowing, Preceding, Unadjusted, adjust,
 };
 use dates::Day;
-use faults::GenerationFault;
+use faults::{Fault, GenerationFault};
 use notation::{date_of, number_of};
 use std::alloc::Global;
 use std::fmt::Write;
 
+/// A refusal, as the program ends with it.
+fn refused<F: Into<Fault>>(fault: F) -> anyhow::Error {
+    let fault: Fault = fault.into();
+    anyhow!("refusal {}", fault.number())
+}
+
 /// Writes a space and a day's civil date.
 fn write_date(out: &mut String, day: Day) -> anyhow::Result<()> {
-    let Ok(date) = day.civil_date() else {
-        return Err(anyhow!("no such day"));
-    };
-    write!(out, " {}-{:02}-{:02}", date.year, date.month, date.day)?;
+    let date = day.civil_date().map_err(refused)?;
+    write!(out, " {date}")?;
     Ok(())
 }
 
+/// Writes an adjusted day.
 fn write_adjusted(
     out: &mut String,
     adjusted: Result<Adjusted, GenerationFault>,
 ) -> anyhow::Result<()> {
-    match adjusted {
-        Ok(day) => write_date(out, day.day()),
-        Err(_) => Err(anyhow!("no adjusted day")),
-    }
+    write_date(out, adjusted.map_err(refused)?.day())
 }
 
 fn read_date(word: &str) -> anyhow::Result<Day> {
-    match date_of(word.as_bytes()) {
-        Some(day) => Ok(day),
-        None => Err(anyhow!("no date")),
-    }
+    date_of(word.as_bytes()).context("no date")
 }
 
 fn read_number(word: &str) -> anyhow::Result<u64> {
-    match number_of(word.as_bytes()) {
-        Some(number) => Ok(number),
-        None => Err(anyhow!("no number")),
-    }
+    number_of(word.as_bytes()).context("no number")
 }
 
 /// Writes the adjusted days of a date under F, P and M.
 fn write_adjusted_days(out: &mut String, date: &str) -> anyhow::Result<()> {
-    let Ok(target) = target_calendar() else {
-        return Err(anyhow!("no calendar"));
-    };
+    let target = target_calendar().map_err(refused)?;
     let u = Unadjusted(read_date(date)?.0);
     write_adjusted(out, adjust(&target, &Following, u))?;
     write_adjusted(out, adjust(&target, &Preceding, u))?;
     write_adjusted(out, adjust(&target, &ModifiedFollowing, u))
 }
 
-/// The rolls of a bond of these terms.
-fn rolls_of(
-    months: u64,
-    stub: u64,
-    mark: u64,
-    effective: Day,
-    maturity: Day,
-) -> anyhow::Result<Rolls> {
-    let bond = Bond {
-        number: 1,
-        effective,
-        maturity,
-        months,
-        stub,
-        mark,
-        lag: 0,
-        face: 1,
-        rate: 0,
-    };
-    let Ok(terms) = bond.terms() else {
-        return Err(anyhow!("out of range"));
-    };
-    match terms.rolls() {
-        Ok(rolls) => Ok(rolls),
-        Err(_) => Err(anyhow!("too many rolls")),
-    }
-}
-
-/// Writes the unadjusted rolls.
-fn write_rolls(out: &mut String, rolls: &Rolls) -> anyhow::Result<()> {
+/// Writes the unadjusted rolls of a bond.
+fn write_rolls(out: &mut String, bond: &Bond) -> anyhow::Result<()> {
+    let terms = bond.terms().map_err(refused)?;
+    let rolls = terms.rolls().map_err(refused)?;
     out.push(':')?;
-    for i in 0..rolls.count() {
-        if let Some(u) = rolls.day(i) {
-            write_date(out, Day(u.0))?;
-        }
+    for u in (0..rolls.count()).filter_map(|i| rolls.day(i)) {
+        write_date(out, Day(u.0))?;
     }
     Ok(())
 }
@@ -100,16 +66,20 @@ pub(crate) fn answer(heap: Global, line: &str) -> anyhow::Result<String> {
     match words.as_slice() {
         [_, date] => write_adjusted_days(&mut out, date)?,
         [_, months, stub, mark, effective, maturity] => {
-            let rolls = rolls_of(
-                read_number(months)?,
-                read_number(stub)?,
-                read_number(mark)?,
-                read_date(effective)?,
-                read_date(maturity)?,
-            )?;
-            write_rolls(&mut out, &rolls)?;
+            let bond = Bond {
+                number: 1,
+                effective: read_date(effective)?,
+                maturity: read_date(maturity)?,
+                months: read_number(months)?,
+                stub: read_number(stub)?,
+                mark: read_number(mark)?,
+                lag: 0,
+                face: 1,
+                rate: 0,
+            };
+            write_rolls(&mut out, &bond)?;
         }
-        _ => return Err(anyhow!("two words or six")),
+        _ => bail!("two words or six"),
     }
     Ok(out)
 }
