@@ -5,7 +5,7 @@ use Rattle.std.specs.List.{list_any}
 use Rattle.calendars.specs.Rules.{any}
 use Rattle.calendars.specs.Lists.{first_place}
 
--- the library's word for a slice's tests says the same
+-- the library's `list_any` is `any`
 pub any_is : {X : Type 0} (test : X → Bool) (xs : List X) → list_any test xs ≡ any test xs
 any_is test [] = refl
 any_is test (x ∷ xs) = ap (λ b. test x || b) (any_is test xs)

@@ -8,6 +8,7 @@ use crate::layer::Layer;
 use dates::{Day, LAST_DAY};
 use faults::CalendarFault;
 
+// No `impl Model`, as for `Rule`.
 /// A calendar that closes the days of a list, which it borrows.
 #[derive(Drop)]
 pub struct Listed<'a> {

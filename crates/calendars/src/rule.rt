@@ -30,7 +30,7 @@ pub trait Entry: Copy + Default {
         ensures { told calendar_refusal result ≡ asked day.0 (closes self.now day.0) };
 }
 
-// No `impl Model`: its value could not hold that the layer is at most 15, which the law of calendars needs.
+// No `impl Model`: of a value of entries and any number as layer, the law that codes are at most 15 would be false.
 /// A calendar of up to `N` entries, added one at a time.
 #[derive(Drop)]
 pub struct Rule<E, const N: usize> {
