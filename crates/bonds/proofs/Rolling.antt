@@ -59,37 +59,31 @@ pub complete : (t : Terms) → Complete t
 complete t k a b = elim (cases_lt (count t) k) [ inl l ↦ absurd (both_ways _ (beyond t k l) b) | inr g ↦ among t k a g ]
 
 -- the shifts by 1 to n periods lie between
-abbrev pub Passed : Terms → ℕ → Type 0
-Passed t n = (j : ℕ) → 1 ≤ j → j ≤ n → between t (shifted t j) ≡ true
+abbrev pub Passes : Terms → ℕ → Type 0
+Passes t n = (k : ℕ) → 0 ≤ k → k < n → between t (shifted t (k + 1)) ≡ true
 
--- then they are not more than the count, and one that fails is past it
-pub not_more : (t : Terms) (n : ℕ) → Passed t n → n ≤ count t
+-- then they are not more than the count, and if the next fails, they are all
+not_more : (t : Terms) (n : ℕ) → Passes t n → n ≤ count t
 not_more t n h =
     elim (cases_lt (count t) n) [
-      | inl lt ↦ absurd (both_ways _ (beyond t n lt) (h n (omega arith) (omega arith)))
+      | inl lt ↦ absurd (both_ways _ (beyond t (n - 1 + 1) (omega arith)) (h (n - 1) (omega arith) (omega arith)))
       | inr ge ↦ ge
     ]
 
-pub stops : (t : Terms) (n : ℕ) → Passed t n → between t (shifted t (n + 1)) ≡ false → n ≡ count t
+stops : (t : Terms) (n : ℕ) → Passes t n → between t (shifted t (n + 1)) ≡ false → n ≡ count t
 stops t n h f =
     elim (cases_lt n (count t)) [
       | inl lt ↦ absurd (both_ways _ f ((at_count t).below (n + 1) (omega arith) (omega arith)))
       | inr ge ↦ omega (arith, not_more t n h)
     ]
 
--- so the count is where the first of them fails, if one does
-abbrev pub Passes : Terms → ℕ → Type 0
-Passes t n = (k : ℕ) → 0 ≤ k → k < n → between t (shifted t (k + 1)) ≡ true
-
-passed : (t : Terms) (n : ℕ) → Passes t n → Passed t n
-passed t n h j a b = let e : j - 1 + 1 ≡ j = omega arith in rw e at (h (j - 1) (omega arith) (omega arith))
-
+-- so the count, up to m, is how many come before the first that fails
 pub count_first : (t : Terms) (m : ℕ) (r : Option ℕ)
     → MatchOption r (Passes t m) (λ i. (0 ≤ i) × (i < m) × (between t (shifted t (i + 1)) ≡ false) × Passes t i) → unwrap_or r m ≡ min (count t) m
-count_first t m None h = omega (arith, not_more t m (passed t m h))
-count_first t m (Some i) h = omega (arith, h.1, stops t i (passed t i h.3) h.2)
+count_first t m None h = omega (arith, not_more t m h)
+count_first t m (Some i) h = omega (arith, h.1, stops t i h.3 h.2)
 
--- if the next shift leads out of the calendars, there is a stub
+-- there is a stub unless the next shift, if that is a day of the calendars, is the other end
 pub stub_is : (t : Terms) (n : ℕ) (o : Option ℕ) → n ≡ count t → o ≡ shift_answer t (n + 1) → not (option_eq eqb o (Some (other_end t))) ≡ has_stub t
 stub_is t n None e h = let s : n + 1 ≡ suc (count t) = omega arith in sym (ap not (rw s at (none_outside t (n + 1) h).end))
 stub_is t n (Some x) e h = let s : n + 1 ≡ suc (count t) = omega arith in let p = rw s at (cond_some _ _ _ (sym h)).1 in rw (← p)
