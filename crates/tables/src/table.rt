@@ -1,12 +1,13 @@
-ghost use Rattle.std.specs.Prelude.{◌≡◌, ◌+◌, ◌-◌, ◌<◌, ◌≤◌, true, ◌++◌, length, take, drop, Option, Some, None, cond};
+ghost use Rattle.std.specs.Prelude.{◌≡◌, ◌<◌, ◌≤◌, true, cond, length, take, Some, None};
 ghost use Rattle.std.specs.Option.{IfSome};
 ghost use Rattle.tables.specs.Tables.{rising, place, found, insertable, held, after_insert, after_remove, after_replace};
 ghost use Rattle.tables.specs.TableLaws.{Within, HeldLaw, PutLaw, OutLaw};
 
 use crate::keyed::Keyed;
 
-// The places and their count are lent for each call: a struct of both would be built for one call and taken apart again, since the caller keeps the array and the count as fields of its own.
-// A bare `bool` tells whether a change was made, as in std's sets: the callers' refusals have names of their own.
+// The places and their count are lent for each call: the caller keeps the array and the count as fields of its own.
+// A struct of both would be built for one call, and the count read back from it afterwards.
+// A bare `bool` tells whether a change was made, as in std's sets: each caller names its own refusal.
 
 /// Where a key is among records by rising key, or else where it belongs.
 pub fn find<R: Keyed>(records: &[R], key: u64) -> Result<usize, usize>
@@ -14,7 +15,7 @@ pub fn find<R: Keyed>(records: &[R], key: u64) -> Result<usize, usize>
     ensures bound { Within (length records.now) result }
     ensures law { rising R.Keyed.key 0 records.now ≡ true → HeldLaw R.Keyed.key records.now }
 {
-    // A linear search: the promise is for all lists, and a binary search misses keys where they do not rise.
+    // A linear search: the promise is for any list, and where the keys do not rise a binary search answers otherwise.
     match records.iter().position(|record| record.key() >= key) {
         Some(at) if records[at].key() == key => Ok(at),
         Some(at) => Err(at),
