@@ -1,17 +1,11 @@
--- What is put in and taken out, by its place; of any list.
-use Rattle.std.proofs.Common.{◌≡◌, ℕ, ◌+◌, ◌<◌, ◌≤◌, true, false, List, [], ◌∷◌, length, get_or, set, is_ok, Ok, Err, refl, arith}
-use Rattle.std.specs.List.{insert, remove}
+-- Where a key is, and how many records there are after a change; of any list.
+use Rattle.std.proofs.Common.{◌≡◌, ℕ, ◌+◌, ◌<◌, true, false, List, [], ◌∷◌, length, get_or, is_ok, Ok, Err, refl, arith}
 use Rattle.std.proofs.lemmas.Bool.{false≢true}
 use Rattle.std.proofs.lemmas.Bool.Decides.{nat_tests}
 use Rattle.tables.specs.Tables.{place, has, found, with_record, without}
 
 module _ {R : Type 0} (key : R → ℕ) where
-  -- a place is at most behind the records
-  pub place_le : (k : ℕ) (xs : List R) → place key k xs ≤ length xs
-  place_le k [] = omega arith
-  place_le k (x ∷ xs) = let h = place_le k xs in grind (arith, nat_tests)
-
-  -- that of a key that is held is one of theirs
+  -- the place of a key that is held is one of theirs
   pub place_lt : (k : ℕ) (xs : List R) → has key k xs ≡ true → place key k xs < length xs
   place_lt k [] h = absurd (false≢true h)
   place_lt k (x ∷ xs) h = let i = place_lt k xs in grind (arith, nat_tests)
@@ -20,26 +14,6 @@ module _ {R : Type 0} (key : R → ℕ) where
   pub place_key : (k : ℕ) (xs : List R) (d : R) → has key k xs ≡ true → key (get_or xs (place key k xs) d) ≡ k
   place_key k [] d h = absurd (false≢true h)
   place_key k (x ∷ xs) d h = let i = place_key k xs d in grind (arith, nat_tests)
-
-  -- a record of a key that is held is written over the one there
-  pub with_held : (r : R) (xs : List R) → has key (key r) xs ≡ true → with_record key r xs ≡ set xs (place key (key r) xs) r
-  with_held r [] h = absurd (false≢true h)
-  with_held r (x ∷ xs) h = let i = with_held r xs in grind (arith, nat_tests)
-
-  -- one of a new key goes between
-  pub with_absent : (r : R) (xs : List R) → has key (key r) xs ≡ false → with_record key r xs ≡ insert xs (place key (key r) xs) r
-  with_absent r [] h = refl
-  with_absent r (x ∷ xs) h = let i = with_absent r xs in grind (arith, nat_tests)
-
-  -- a key that is held goes out at its place
-  pub without_held : (k : ℕ) (xs : List R) → has key k xs ≡ true → without key k xs ≡ remove xs (place key k xs)
-  without_held k [] h = refl
-  without_held k (x ∷ xs) h = let i = without_held k xs in grind (arith, nat_tests)
-
-  -- one that is not held leaves the list as it is
-  pub without_absent : (k : ℕ) (xs : List R) → has key k xs ≡ false → without key k xs ≡ xs
-  without_absent k [] h = refl
-  without_absent k (x ∷ xs) h = let i = without_absent k xs in grind (arith, nat_tests)
 
   -- a record written over another leaves as many
   pub length_with_held : (r : R) (xs : List R) → has key (key r) xs ≡ true → length (with_record key r xs) ≡ length xs

@@ -1,8 +1,8 @@
 -- The laws of tables whose keys rise: which records stand in them.
-use Rattle.std.proofs.Common.{◌≡◌, ℕ, zero, suc, ◌≤◌, true, false, cond, eqb, ltb, leb, ◌⊎◌, List, [], ◌∷◌, sym, refl, ap, ◌∙◌, inl, inr, arith}
+use Rattle.std.proofs.Common.{◌≡◌, ℕ, zero, suc, ◌≤◌, true, false, cond, eqb, ltb, leb, ◌⊎◌, List, [], ◌∷◌, get_or, sym, refl, ap, ◌∙◌, inl, inr, arith}
 use Rattle.std.proofs.lemmas.Bool.{false≢true, both_ways, cases_Bool, cond_both, and_parts, leb-true, eqb-true}
 use Rattle.std.proofs.lemmas.Bool.Decides.{nat_tests}
-use Rattle.tables.specs.Tables.{rising, has, with_record, without}
+use Rattle.tables.specs.Tables.{rising, place, has, with_record, without}
 use Rattle.tables.specs.TableLaws.{Stands, HeldLaw, PutLaw, OutLaw}
 use Rattle.tables.proofs.Rises.{rising_with, rising_without, has_without}
 
@@ -37,45 +37,22 @@ module _ {R : Type 0} (key : R → ℕ) where
         | inr f ↦ (x, grind (arith, nat_tests), stands_here x x xs refl)
       ]
 
-  -- no record of rising keys is below the first
-  stands_above : (low : ℕ) (xs : List R) (r : R) → rising key low xs ≡ true → Stands r xs → low ≤ key r
-  stands_above low [] r h s = stands_nowhere (low ≤ key r) r s
-  stands_above low (x ∷ xs) r h s =
+  -- a record of rising keys is no lower than the first may be, its key is held, and it stands at its key's place
+  stood : (low : ℕ) (xs : List R) (r : R) → rising key low xs ≡ true → Stands r xs
+      → (low ≤ key r) × (has key (key r) xs ≡ true) × ((d : R) → get_or xs (place key (key r) xs) d ≡ r)
+  stood low [] r h s = stands_nowhere ((low ≤ key r) × (false ≡ true) × ((d : R) → d ≡ r)) r s
+  stood low (x ∷ xs) r h s =
       let p = and_parts (leb low (key x)) (rising key (suc (key x)) xs) h in
       let first = leb-true low (key x) p.0 in
       elim (stands_where x r xs s) [
-        | inl e ↦ omega (arith, ap key e)
-        | inr t ↦ let i = stands_above (suc (key x)) xs r p.1 t in omega arith
-      ]
-
-  -- every record's key is held
-  held_all : (low : ℕ) (xs : List R) (r : R) → rising key low xs ≡ true → Stands r xs → has key (key r) xs ≡ true
-  held_all low [] r h s = stands_nowhere (false ≡ true) r s
-  held_all low (x ∷ xs) r h s =
-      let p = and_parts (leb low (key x)) (rising key (suc (key x)) xs) h in
-      elim (stands_where x r xs s) [
-        | inl e ↦ let k = ap key e in grind (arith, nat_tests)
-        | inr t ↦
-            let above = stands_above (suc (key x)) xs r p.1 t in
-            let i = held_all (suc (key x)) xs r p.1 t in
-            grind (arith, nat_tests)
+        | inl e ↦ let k = ap key e in (omega arith, grind (arith, nat_tests), λ d. grind (arith, nat_tests))
+        | inr t ↦ let i = stood (suc (key x)) xs r p.1 t in (omega arith, grind (arith, nat_tests), λ d. grind (arith, nat_tests))
       ]
 
   -- no two records have one key
-  one_of_key : (low : ℕ) (xs : List R) (r x : R) → rising key low xs ≡ true → Stands r xs → Stands x xs → key x ≡ key r → x ≡ r
-  one_of_key low [] r x h s t e = stands_nowhere (x ≡ r) r s
-  one_of_key low (y ∷ xs) r x h s t e =
-      let p = and_parts (leb low (key y)) (rising key (suc (key y)) xs) h in
-      elim (stands_where y r xs s) [
-        | inl a ↦ elim (stands_where y x xs t) [
-          | inl b ↦ sym b ∙ a
-          | inr v ↦ absurd (let i = stands_above (suc (key y)) xs x p.1 v in omega (arith, ap key a))
-        ]
-        | inr u ↦ elim (stands_where y x xs t) [
-          | inl b ↦ absurd (let i = stands_above (suc (key y)) xs r p.1 u in omega (arith, ap key b))
-          | inr v ↦ one_of_key (suc (key y)) xs r x p.1 u v e
-        ]
-      ]
+  one_of_key : (xs : List R) (r x : R) → rising key 0 xs ≡ true → Stands r xs → Stands x xs → key x ≡ key r → x ≡ r
+  one_of_key xs r x h s t e =
+      sym ((stood 0 xs x h t).2 r) ∙ ap (λ k. get_or xs (place key k xs) r) e ∙ (stood 0 xs r h s).2 r
 
   -- a record of another key than the first stands further on
   stands_past : (y x : R) (xs : List R) → (key x ≡ key y → ⊥) → Stands x (y ∷ xs) → Stands x xs
@@ -128,7 +105,7 @@ module _ {R : Type 0} (key : R → ℕ) where
   module _ (xs : List R) (up : rising key 0 xs ≡ true) where
     -- a key is held exactly if some record has it
     pub held_law : HeldLaw key xs
-    held_law = record { only = λ k. held_only k xs; all = λ r. held_all 0 xs r up }
+    held_law = record { only = λ k. held_only k xs; all = λ r s. (stood 0 xs r up s).1 }
 
     -- putting a record in changes nothing else
     pub put_law : (r : R) → PutLaw key r xs
@@ -138,7 +115,7 @@ module _ {R : Type 0} (key : R → ℕ) where
           rises = up_with;
           comes = put_comes r xs;
           stays = λ x s other. put_stays x r xs other s;
-          only = λ x s. (one_of_key 0 (with_record key r xs) r x up_with (put_comes r xs) s, λ other. put_only x r xs other s);
+          only = λ x s. (one_of_key (with_record key r xs) r x up_with (put_comes r xs) s, λ other. put_only x r xs other s);
         }
 
     -- taking a key out changes nothing else
@@ -150,7 +127,7 @@ module _ {R : Type 0} (key : R → ℕ) where
           stays = λ x s other. out_stays x k xs other s;
           only = λ x s. (
             λ e. both_ways (has key k (without key k xs)) (has_without key k 0 xs up)
-                (ap (λ m. has key m (without key k xs)) (sym e) ∙ held_all 0 (without key k xs) x up_without s),
+                (ap (λ m. has key m (without key k xs)) (sym e) ∙ (stood 0 (without key k xs) x up_without s).1),
             out_only x k xs s,
           );
         }

@@ -1,37 +1,32 @@
-use Rattle.std.proofs.Common.{arith}
-use Rattle.tables.proofs.Finds.{come_next, found_here, found_before, found_nowhere}
+use Rattle.std.proofs.Common.{leb, sym, ◌∙◌, rules, tests}
+use Rattle.std.proofs.lemmas.Iterator.{YieldsList-from_slice}
+use Rattle.std.proofs.lemmas.Iterator.Search.{position_from_yields_List}
+use Rattle.tables.proofs.Finds.{found_behind, found_here, found_before}
 use Rattle.tables.proofs.Standing.{held_law}
 use Rattle.tables.proofs.table.find.Goals as goal
 
-pub returns-then-at-key-2 : goal.returns-then-at-key-2
-returns-then-at-key-2 g c =
-    let key = g.R.Keyed.key in
-    let xs = c.args.records.now in
-    record {
-      is =
-          found_here key c.args.key xs c.loop-i.i c.loop-i.invariant c.index-records-i.result (omega arith) c.index-records-i.is (omega arith);
-      bound = omega arith;
-      law = held_law key xs;
-    }
+pub returns-in-Some-clause-is : goal.returns-in-Some-clause-is
+returns-in-Some-clause-is g c =
+    found_here g.R.Keyed.key c.args.key c.args.records.now c.in-Some.at c.index-records-at.result
+    (sym (position_from_yields_List (λ x. leb c.args.key (g.R.Keyed.key x)) _ _ _ c.position.ensures.ran (YieldsList-from_slice c.args.records.now c.iter.ensures.rest) (λ x b q s. search (rules, tests))) ∙ c.in-Some.is)
+    c.index-records-at.is (sym c.key.ensures ∙ c.if-key.true)
 
-pub returns-else-at-key-2 : goal.returns-else-at-key-2
-returns-else-at-key-2 g c =
-    let key = g.R.Keyed.key in
-    let xs = c.args.records.now in
-    record {
-      is =
-          found_before key c.args.key xs c.loop-i.i c.loop-i.invariant c.index-records-i.result (omega arith) c.index-records-i.is (omega arith);
-      bound = omega arith;
-      law = held_law key xs;
-    }
+pub returns-in-Some-clause-law : goal.returns-in-Some-clause-law
+returns-in-Some-clause-law g c = held_law g.R.Keyed.key c.args.records.now
 
-pub loop-i-preserved : goal.loop-i-preserved
-loop-i-preserved g c =
-    come_next g.R.Keyed.key c.args.key c.args.records.now c.loop-i.i c.loop-i.invariant
-    c.index-records-i.result (omega arith) c.index-records-i.is (omega arith)
+pub returns-in-Some-2-clause-is : goal.returns-in-Some-2-clause-is
+returns-in-Some-2-clause-is g c =
+    found_before g.R.Keyed.key c.args.key c.args.records.now c.in-Some.at c.index-records-at.result
+    (sym (position_from_yields_List (λ x. leb c.args.key (g.R.Keyed.key x)) _ _ _ c.position.ensures.ran (YieldsList-from_slice c.args.records.now c.iter.ensures.rest) (λ x b q s. search (rules, tests))) ∙ c.in-Some.is)
+    c.index-records-at.is (λ e. c.if-key.false (c.key.ensures ∙ e))
 
-pub returns : goal.returns
-returns g c =
-    let key = g.R.Keyed.key in
-    let xs = c.args.records.now in
-    record { is = found_nowhere key c.args.key xs c.loop-i.i c.loop-i.invariant (omega arith); bound = omega arith; law = held_law key xs }
+pub returns-in-Some-2-clause-law : goal.returns-in-Some-2-clause-law
+returns-in-Some-2-clause-law g c = held_law g.R.Keyed.key c.args.records.now
+
+pub returns-in-None-clause-is : goal.returns-in-None-clause-is
+returns-in-None-clause-is g c =
+    found_behind g.R.Keyed.key c.args.key c.args.records.now
+    (sym (position_from_yields_List (λ x. leb c.args.key (g.R.Keyed.key x)) _ _ _ c.position.ensures.ran (YieldsList-from_slice c.args.records.now c.iter.ensures.rest) (λ x b q s. search (rules, tests))) ∙ c.in-None.is)
+
+pub returns-in-None-clause-law : goal.returns-in-None-clause-law
+returns-in-None-clause-law g c = held_law g.R.Keyed.key c.args.records.now
