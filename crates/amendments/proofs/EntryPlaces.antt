@@ -5,15 +5,11 @@ use Rattle.tables.proofs.Afters.{found_key, take_set_since, take_after_insert, t
 use Rattle.amendments.specs.declared.amendment.Amendment.{Amendment}
 use Rattle.amendments.specs.Layers.{day_of}
 
--- what a read behind the last place would give
-abbrev pub no_entry : Amendment
-no_entry = record { day = record { 0 = 0 }; code = 0 }
-
 module _ (E : List Amendment) (n : ℕ) where
   -- the code of the entry that was found, written over
-  pub altered : (r : Amendment) (at : ℕ) → n ≤ length E → Ok at ≡ found day_of (day_of r) (take n E) → take n (set E at (record { day = (get_or E at no_entry).day; code = r.code })) ≡ with_record day_of r (take n E)
-  altered r at inside hit =
-      ap (λ d. take n (set E at (record { day = record { 0 = d }; code = r.code }))) (found_key day_of E n (day_of r) at inside hit no_entry)
+  pub altered : (r z : Amendment) (at : ℕ) → n ≤ length E → Ok at ≡ found day_of (day_of r) (take n E) → take n (set E at (record { day = (get_or E at z).day; code = r.code })) ≡ with_record day_of r (take n E)
+  altered r z at inside hit =
+      ap (λ d. take n (set E at (record { day = record { 0 = d }; code = r.code }))) (found_key day_of E n (day_of r) at inside hit z)
       ∙ take_set_since day_of E n r at inside hit
 
   module _ (P : List Amendment) (r : Amendment) (e : P ≡ after_insert day_of n r E) where

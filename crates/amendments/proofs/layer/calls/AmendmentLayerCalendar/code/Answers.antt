@@ -4,7 +4,6 @@ use Rattle.dates.proofs.Asked.{answered, asked_low, asked_is}
 use Rattle.tables.proofs.Places.{when_found, when_absent}
 use Rattle.amendments.specs.Layers.{day_of}
 use Rattle.amendments.proofs.EntryCodes.{code_held, code_absent}
-use Rattle.amendments.proofs.EntryPlaces.{no_entry}
 use Rattle.amendments.proofs.layer.calls.AmendmentLayerCalendar.code.Goals as goal
 
 pub returns-in-Ok : goal.returns-in-Ok
@@ -13,11 +12,13 @@ returns-in-Ok g c =
     let d = c.args.day.0 in
     let es = take s.count s.entries in
     let at = c.in-Ok.at in
+    let z = c.index-self-at.result in
     let under = g.K.Calendar.codes s.under d in
     let w = when_found day_of d at es c.in-Ok.ensures.is in
     answered d _ _ (asked_low d c.in_ok-under.under under c.in_ok-under.ensures)
-    (ap (λ e. e.code) (sym (get_or-take s.count s.entries at no_entry c.in-Ok.ensures.bound))
-    ∙ ap (λ k. (get_or es k no_entry).code) w.1 ∙ code_held es under d no_entry w.0)
+    (c.value.ensures
+    ∙ ap (λ e. e.code.value) (sym (get_or-take s.count s.entries at z c.in-Ok.ensures.bound))
+    ∙ ap (λ k. (get_or es k z).code.value) w.1 ∙ code_held es under d z w.0)
 
 pub returns-in-Err : goal.returns-in-Err
 returns-in-Err g c =
