@@ -16,11 +16,6 @@ module _ (under : ℕ → ℕ) (E : List Amendment) (n number : ℕ) (inside : n
     pub amend_held : has day_of (day_of r) (take n E) ≡ true → Ok tt ≡ amend_answer (layer_rest under (take n E) number) (day_of r)
     amend_held h = let e = has_map day_of itself (day_of r) (take n E) in grind (arith, nat_tests)
 
-    -- so can one whose entry fits
-    pub amend_room : true ≡ insertable day_of n r E → Ok tt ≡ amend_answer (layer_rest under (take n E) number) (day_of r)
-    amend_room h =
-        let e = length-map (take n E) day_of in let t = length-take-le n E (omega arith) in grind (arith, nat_tests)
-
     -- a day that is not entered, and whose entry does not fit, is refused
     pub amend_full : has day_of (day_of r) (take n E) ≡ false → false ≡ insertable day_of n r E → refuse 14 [] ≡ amend_answer (layer_rest under (take n E) number) (day_of r)
     amend_full h f =

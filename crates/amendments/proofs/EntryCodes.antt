@@ -4,7 +4,7 @@ use mathlib.Core.Path.{fun_ext}
 use Rattle.std.proofs.lemmas.Bool.{false≢true, cases_eq, ne_eqb}
 use Rattle.std.proofs.lemmas.Bool.Decides.{nat_tests}
 use Rattle.tables.specs.Tables.{rising, place, has, with_record, without}
-use Rattle.tables.proofs.Rises.{rising_with, rising_without, has_below}
+use Rattle.tables.proofs.Rises.{rising_with, has_below}
 use Rattle.tables.proofs.Views.{map_with, map_without}
 use Rattle.amendments.specs.declared.amendment.Amendment.{Amendment}
 use Rattle.amendments.specs.Meanings.{meaning, itself, recoded, amended, restored}
@@ -63,10 +63,6 @@ module _ (es new : List Amendment) (r : Amendment) (e : new ≡ with_record day_
 
 -- New entries: the old ones with one taken out.
 module _ (es new : List Amendment) (day : ℕ) (up : rising day_of 0 es ≡ true) (e : new ≡ without day_of day es) where
-  -- their days rise
-  pub rising_left : rising day_of 0 new ≡ true
-  rising_left = ap (rising day_of 0) e ∙ rising_without day_of day 0 es up
-
   -- they mean that the day is restored
   pub meaning_without : (under : ℕ → ℕ) (number : ℕ) → layer_meaning under new number ≡ restored (layer_meaning under es number) day
   meaning_without under number =

@@ -1,7 +1,7 @@
 -- What calls on the table of a layer's entries leave in its first places.
 use Rattle.std.proofs.Common.{◌≡◌, ℕ, ◌+◌, ◌-◌, ◌≤◌, true, false, List, length, get_or, take, set, Ok, sym, ap, ◌∙◌}
 use Rattle.tables.specs.Tables.{found, with_record, without, insertable, held, after_insert, after_remove}
-use Rattle.tables.proofs.Afters.{found_key, take_set_since, take_after_insert, take_after_remove, not_inserted, not_removed}
+use Rattle.tables.proofs.Afters.{found_key, take_set_since, take_after_insert, take_after_remove, not_removed}
 use Rattle.amendments.specs.declared.amendment.Amendment.{Amendment}
 use Rattle.amendments.specs.Layers.{day_of}
 
@@ -16,10 +16,6 @@ module _ (E : List Amendment) (n : ℕ) where
     -- an entry that fits comes in
     pub inserted_entries : true ≡ insertable day_of n r E → take (n + 1) P ≡ with_record day_of r (take n E)
     inserted_entries h = ap (take (n + 1)) e ∙ take_after_insert day_of E n r (sym h)
-
-    -- one that does not fit leaves the entries as they are
-    pub entries_uninserted : false ≡ insertable day_of n r E → take n P ≡ take n E
-    entries_uninserted h = ap (take n) (e ∙ sym (not_inserted day_of E n r h))
 
   module _ (P : List Amendment) (day : ℕ) (e : P ≡ after_remove day_of n day E) where
     -- a day that is held goes out
