@@ -47,27 +47,15 @@ under_same under d day code =
 meanings_same : (under : ℕ → ℕ) (number : ℕ) {codes codes' : ℕ → ℕ} {days days' : List ℕ} → codes ≡ codes' → days ≡ days' → meaning codes (record { under = under; entered = days; number = number }) ≡ meaning codes' (record { under = under; entered = days'; number = number })
 meanings_same under number c d = λ i. record { codes = c i; rest = record { under = under; entered = d i; number = number } }
 
--- New entries: the old ones with one put in.
-module _ (es new : List Amendment) (r : Amendment) (e : new ≡ with_record day_of r es) where
-  -- their days rise
-  pub rising_entered : rising day_of 0 es ≡ true → rising day_of 0 new ≡ true
-  rising_entered up = ap (rising day_of 0) e ∙ rising_with day_of r 0 es up (omega arith)
+-- an entry put in amends its day
+pub meaning_with : (r : Amendment) (es : List Amendment) (under : ℕ → ℕ) (number : ℕ) → layer_meaning under (with_record day_of r es) number ≡ amended (layer_meaning under es number) (day_of r) r.code.value
+meaning_with r es under number =
+    let codes : layer_codes under (with_record day_of r es) ≡ recoded (layer_codes under es) (day_of r) r.code.value = fun_ext (λ d. code_with r es (under d) d) in
+    meanings_same under number codes (map_with day_of itself r es)
 
-  -- they mean that the day is amended
-  pub meaning_with : (under : ℕ → ℕ) (number : ℕ) → layer_meaning under new number ≡ amended (layer_meaning under es number) (day_of r) r.code.value
-  meaning_with under number =
-      let codes : layer_codes under (with_record day_of r es) ≡ recoded (layer_codes under es) (day_of r) r.code.value = fun_ext (λ d. code_with r es (under d) d) in
-      let days = map_with day_of itself r es in
-      ap (λ l. layer_meaning under l number) e
-      ∙ meanings_same under number codes days
-
--- New entries: the old ones with one taken out.
-module _ (es new : List Amendment) (day : ℕ) (up : rising day_of 0 es ≡ true) (e : new ≡ without day_of day es) where
-  -- they mean that the day is restored
-  pub meaning_without : (under : ℕ → ℕ) (number : ℕ) → layer_meaning under new number ≡ restored (layer_meaning under es number) day
-  meaning_without under number =
-      let codes : layer_codes under (without day_of day es) ≡ recoded (layer_codes under es) day (under day) =
-      fun_ext (λ d. code_without 0 es (under d) day d up ∙ under_same under d day (code_now es (under d) d)) in
-      let days = map_without day_of itself day es in
-      ap (λ l. layer_meaning under l number) e
-      ∙ meanings_same under number codes days
+-- one taken out restores its day
+pub meaning_without : (day : ℕ) (es : List Amendment) (under : ℕ → ℕ) (number : ℕ) → rising day_of 0 es ≡ true → layer_meaning under (without day_of day es) number ≡ restored (layer_meaning under es number) day
+meaning_without day es under number up =
+    let codes : layer_codes under (without day_of day es) ≡ recoded (layer_codes under es) day (under day) =
+    fun_ext (λ d. code_without 0 es (under d) day d up ∙ under_same under d day (code_now es (under d) d)) in
+    meanings_same under number codes (map_without day_of itself day es)

@@ -1,39 +1,25 @@
-use Rattle.std.proofs.Common.{ap, ◌∙◌, arith}
-use Rattle.amendments.specs.Meanings.{if_granted, restored}
-use Rattle.amendments.specs.Layers.{layer_meaning}
+use Rattle.std.proofs.Common.{sym, ◌∙◌, arith}
+use Rattle.std.proofs.lemmas.Bool.Decides.{nat_tests}
+use Rattle.tables.proofs.Afters.{take_after_remove}
+use Rattle.tables.proofs.Views.{has_map}
+use Rattle.amendments.specs.Meanings.{itself}
+use Rattle.amendments.specs.Layers.{day_of}
 use Rattle.amendments.specs.LayerViews.{entries_of}
 use Rattle.amendments.proofs.EntryCodes.{meaning_without}
-use Rattle.amendments.proofs.EntryPlaces.{removed_entries, entries_unremoved}
-use Rattle.amendments.proofs.EntryAnswers.{restore_held, restore_absent}
 use Rattle.amendments.proofs.layer.calls.AmendmentLayerAmendable.restore.Goals as goal
 
 pub returns-then-not-remove : goal.returns-then-not-remove
 returns-then-not-remove g c =
-    let s = c.args.self.now in
-    let d = c.args.day.0 in
-    let under = g.K.Calendar.codes s.under in
-    let m = layer_meaning under (entries_of s) s.layer.number in
-    let answer = rw c.from.ensures at c.if-not-remove.ensures.answer in
-    let after = rw c.from.ensures at c.if-not-remove.ensures.after in
-    let a = restore_absent under s.entries s.count s.layer.number (omega arith) (omega arith) d (omega arith) answer in
-    record {
-      answer = a;
-      after =
-          ap (λ l. layer_meaning under l s.layer.number) (entries_unremoved s.entries s.count c.remove.new.places d after answer)
-          ∙ ap (λ t. if_granted t (restored m d) m) a;
-    }
+    let entered = has_map day_of itself c.args.day.0 (entries_of c.args.self.now) in
+    record { answer = grind (arith, nat_tests); after = grind (arith, nat_tests) }
 
 pub returns : goal.returns
 returns g c =
     let s = c.args.self.now in
     let d = c.args.day.0 in
-    let under = g.K.Calendar.codes s.under in
-    let m = layer_meaning under (entries_of s) s.layer.number in
-    let answer = rw c.from.ensures at c.if-not-remove.ensures.answer in
-    let after = rw c.from.ensures at c.if-not-remove.ensures.after in
-    let a = restore_held under s.entries s.count s.layer.number (omega arith) (omega arith) d (omega arith) answer in
-    let e = removed_entries s.entries s.count c.remove.new.places d after answer in
-    record {
-      answer = a;
-      after = meaning_without (entries_of s) _ d s.risen e under s.layer.number ∙ ap (λ t. if_granted t (restored m d) m) a;
-    }
+    let entered = has_map day_of itself d (entries_of s) in
+    let told = c.if-not-remove.ensures in
+    let key = c.from.ensures in
+    let m = meaning_without d (entries_of s) (g.K.Calendar.codes s.under) s.layer.number s.risen in
+    let t = take_after_remove day_of s.entries s.count d (sym (rw key at told.answer)) in
+    record { answer = grind (arith, nat_tests); after = grind (arith, nat_tests) }
