@@ -1,10 +1,10 @@
 -- What a day that is entered or taken out makes of a layer's entries and of its meaning.
-use Rattle.std.proofs.Common.{◌≡◌, ℕ, suc, ◌≤◌, true, false, cond, eqb, List, [], ◌∷◌, get_or, refl, ap, ◌∙◌, inl, inr, arith}
+use Rattle.std.proofs.Common.{◌≡◌, ℕ, suc, true, false, cond, eqb, List, [], ◌∷◌, get_or, refl, arith}
 use mathlib.Core.Path.{fun_ext}
-use Rattle.std.proofs.lemmas.Bool.{false≢true, cases_eq, ne_eqb}
+use Rattle.std.proofs.lemmas.Bool.{false≢true}
 use Rattle.std.proofs.lemmas.Bool.Decides.{nat_tests}
 use Rattle.tables.specs.Tables.{rising, place, has, with_record, without}
-use Rattle.tables.proofs.Rises.{rising_with, has_below}
+use Rattle.tables.proofs.Rises.{has_below}
 use Rattle.tables.proofs.Views.{map_with, map_without}
 use Rattle.amendments.specs.declared.amendment.Amendment.{Amendment}
 use Rattle.amendments.specs.Meanings.{meaning, itself, recoded, amended, restored}
@@ -35,14 +35,6 @@ code_without low (e ∷ es) under day d up =
     let a = code_absent (suc (day_of e)) es under day in
     grind (arith, nat_tests)
 
--- the code under a day is that under the day that it equals
-under_same : (under : ℕ → ℕ) (d day code : ℕ) → cond (eqb d day) (under d) code ≡ cond (eqb d day) (under day) code
-under_same under d day code =
-    elim (cases_eq d day) [
-      | inl e ↦ ap (λ k. cond (eqb d day) (under k) code) e
-      | inr n ↦ let f = ne_eqb d day n in grind (arith, nat_tests)
-    ]
-
 -- meanings of equal codes and entered days are equal
 meanings_same : (under : ℕ → ℕ) (number : ℕ) {codes codes' : ℕ → ℕ} {days days' : List ℕ} → codes ≡ codes' → days ≡ days' → meaning codes (record { under = under; entered = days; number = number }) ≡ meaning codes' (record { under = under; entered = days'; number = number })
 meanings_same under number c d = λ i. record { codes = c i; rest = record { under = under; entered = d i; number = number } }
@@ -57,5 +49,5 @@ meaning_with r es under number =
 pub meaning_without : (day : ℕ) (es : List Amendment) (under : ℕ → ℕ) (number : ℕ) → rising day_of 0 es ≡ true → layer_meaning under (without day_of day es) number ≡ restored (layer_meaning under es number) day
 meaning_without day es under number up =
     let codes : layer_codes under (without day_of day es) ≡ recoded (layer_codes under es) day (under day) =
-    fun_ext (λ d. code_without 0 es (under d) day d up ∙ under_same under d day (code_now es (under d) d)) in
+    fun_ext (λ d. let w = code_without 0 es (under d) day d up in grind (arith, nat_tests)) in
     meanings_same under number codes (map_without day_of itself day es)

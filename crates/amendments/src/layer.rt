@@ -10,6 +10,7 @@ use calendars::Layer;
 pub struct AmendmentLayer<K> {
     under: K,
     layer: Layer,
+    // A fixed array and a count: no call may fail for want of memory.
     entries: [Amendment; 200],
     count: usize,
     ghost within: { (count ≤ 200) × (length entries ≡ 200) },

@@ -87,10 +87,7 @@ impl<K: Calendar> Amendable for AmendmentLayer<K> {
 
     ghost risen = { λ s. rising_map day_of itself 0 (entries_of s) ∙ s.risen };
 
-    ghost few = { λ s.
-        let m = length-map (entries_of s) day_of in
-        let t = length-take-le s.count s.entries (omega arith) in
-        omega arith };
+    ghost few = { λ s. omega (arith, length-map (entries_of s) day_of, length-take-le s.count s.entries (omega arith)) };
 
     fn code_under(&self, day: Day) -> Result<u8, CalendarFault> {
         self.under.code(day)
