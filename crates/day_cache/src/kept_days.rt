@@ -18,6 +18,7 @@ const LAST_START: u32 = 108_549;
 #[derive(Drop)]
 pub(crate) struct KeptDays {
     start: u32,
+    // A fixed array: no call may fail for want of memory.
     words: [u64; 64],
     ghost within: { (start ≤ 108549) × (length words ≡ 64) },
 }

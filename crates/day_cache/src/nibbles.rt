@@ -29,6 +29,7 @@ pub(crate) fn kept_code(words: &[u64], k: u32) -> u8
     requires { (length words.now ≡ 64) × (k < 1024) }
     ensures { result ≡ kept_code words.now k }
 {
+    // `as`: there is no `From` of a u32 for a usize.
     nibble(words[(k / 16) as usize], k % 16)
 }
 

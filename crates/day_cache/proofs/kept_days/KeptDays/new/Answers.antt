@@ -1,6 +1,5 @@
-use Rattle.std.proofs.Common.{refl, sym, ap, ◌∙◌, arith}
+use Rattle.std.proofs.Common.{refl, ◌∙◌, arith}
 use Rattle.std.proofs.lemmas.Bool.Decides.{nat_tests}
-use Rattle.day_cache.specs.Caches.{cache_codes}
 use Rattle.day_cache.proofs.Afresh.{fill_more, fill_all}
 use Rattle.day_cache.proofs.kept_days.KeptDays.new.Goals as goal
 
