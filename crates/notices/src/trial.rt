@@ -21,6 +21,10 @@ impl<'a, K: Calendar> Calendar for Trial<'a, K> {
 
     fn code(&self, day: Day) -> Result<u8, CalendarFault> {
         let code = self.under.code(day)?;
-        Ok(if day == self.day { self.code.value() } else { code })
+        Ok(if day == self.day {
+            self.code.value()
+        } else {
+            code
+        })
     }
 }
