@@ -1,17 +1,17 @@
 -- What a day that is entered or taken out makes of a layer's entries and of its meaning.
-use Rattle.std.proofs.Common.{◌≡◌, ℕ, suc, ◌≤◌, true, false, cond, eqb, List, [], ◌∷◌, get_or, refl, ap, ◌∙◌, inl, inr, arith}
+use Rattle.std.proofs.Common.{◌≡◌, ℕ, suc, true, false, cond, eqb, List, [], ◌∷◌, get_or, refl, arith}
 use mathlib.Core.Path.{fun_ext}
-use Rattle.std.proofs.lemmas.Bool.{false≢true, cases_eq, ne_eqb}
+use Rattle.std.proofs.lemmas.Bool.{false≢true}
 use Rattle.std.proofs.lemmas.Bool.Decides.{nat_tests}
 use Rattle.tables.specs.Tables.{rising, place, has, with_record, without}
-use Rattle.tables.proofs.Rises.{rising_with, rising_without, has_below}
+use Rattle.tables.proofs.Rises.{has_below}
 use Rattle.tables.proofs.Views.{map_with, map_without}
 use Rattle.amendments.specs.declared.amendment.Amendment.{Amendment}
 use Rattle.amendments.specs.Meanings.{meaning, itself, recoded, amended, restored}
-use Rattle.amendments.specs.Layers.{day_of, code_now, small_codes, layer_codes, layer_meaning}
+use Rattle.amendments.specs.Layers.{day_of, code_now, layer_codes, layer_meaning}
 
 -- an entry's code is that of its day
-pub code_held : (es : List Amendment) (under d : ℕ) (z : Amendment) → has day_of d es ≡ true → (get_or es (place day_of d es) z).code ≡ code_now es under d
+pub code_held : (es : List Amendment) (under d : ℕ) (z : Amendment) → has day_of d es ≡ true → (get_or es (place day_of d es) z).code.value ≡ code_now es under d
 code_held [] under d z h = absurd (false≢true h)
 code_held (e ∷ es) under d z h = let i = code_held es under d z in grind (arith, nat_tests)
 
@@ -22,7 +22,7 @@ code_absent low (e ∷ es) under d up h =
     let i = code_absent (suc (day_of e)) es under d in let j = has_below day_of d (suc (day_of e)) es in grind (arith, nat_tests)
 
 -- an entry put in gives its day its code
-code_with : (r : Amendment) (es : List Amendment) (under d : ℕ) → code_now (with_record day_of r es) under d ≡ cond (eqb d (day_of r)) r.code (code_now es under d)
+code_with : (r : Amendment) (es : List Amendment) (under d : ℕ) → code_now (with_record day_of r es) under d ≡ cond (eqb d (day_of r)) r.code.value (code_now es under d)
 code_with r [] under d = grind (arith, nat_tests)
 code_with r (e ∷ es) under d = let i = code_with r es under d in grind (arith, nat_tests)
 
@@ -35,58 +35,19 @@ code_without low (e ∷ es) under day d up =
     let a = code_absent (suc (day_of e)) es under day in
     grind (arith, nat_tests)
 
--- codes stay small with an entry of a small one
-small_with : (r : Amendment) (es : List Amendment) → r.code ≤ 15 → small_codes es ≡ true → small_codes (with_record day_of r es) ≡ true
-small_with r [] l h = grind (arith, nat_tests)
-small_with r (e ∷ es) l h = let i = small_with r es l in grind (arith, nat_tests)
-
--- and without an entry
-small_without : (day : ℕ) (es : List Amendment) → small_codes es ≡ true → small_codes (without day_of day es) ≡ true
-small_without day [] h = refl
-small_without day (e ∷ es) h = let i = small_without day es in grind (arith, nat_tests)
-
--- the code under a day is that under the day that it equals
-under_same : (under : ℕ → ℕ) (d day code : ℕ) → cond (eqb d day) (under d) code ≡ cond (eqb d day) (under day) code
-under_same under d day code =
-    elim (cases_eq d day) [
-      | inl e ↦ ap (λ k. cond (eqb d day) (under k) code) e
-      | inr n ↦ let f = ne_eqb d day n in grind (arith, nat_tests)
-    ]
-
 -- meanings of equal codes and entered days are equal
 meanings_same : (under : ℕ → ℕ) (number : ℕ) {codes codes' : ℕ → ℕ} {days days' : List ℕ} → codes ≡ codes' → days ≡ days' → meaning codes (record { under = under; entered = days; number = number }) ≡ meaning codes' (record { under = under; entered = days'; number = number })
 meanings_same under number c d = λ i. record { codes = c i; rest = record { under = under; entered = d i; number = number } }
 
--- what a layer keeps of its entries: their days rise, and their codes are small
-abbrev pub InOrder : List Amendment → Type 0
-InOrder es = (rising day_of 0 es ≡ true) × ((small_codes es ≡ true) × Unit {0})
+-- an entry put in amends its day
+pub meaning_with : (r : Amendment) (es : List Amendment) (under : ℕ → ℕ) (number : ℕ) → layer_meaning under (with_record day_of r es) number ≡ amended (layer_meaning under es number) (day_of r) r.code.value
+meaning_with r es under number =
+    let codes : layer_codes under (with_record day_of r es) ≡ recoded (layer_codes under es) (day_of r) r.code.value = fun_ext (λ d. code_with r es (under d) d) in
+    meanings_same under number codes (map_with day_of itself r es)
 
--- New entries: the old ones with one put in.
-module _ (es new : List Amendment) (r : Amendment) (e : new ≡ with_record day_of r es) where
-  -- they are in order
-  pub order_with : rising day_of 0 es ≡ true → small_codes es ≡ true → r.code ≤ 15 → InOrder new
-  order_with up small l =
-      (ap (rising day_of 0) e ∙ rising_with day_of r 0 es up (omega arith), (ap small_codes e ∙ small_with r es l small, tt))
-
-  -- they mean that the day is amended
-  pub meaning_with : (under : ℕ → ℕ) (number : ℕ) → layer_meaning under new number ≡ amended (layer_meaning under es number) (day_of r) r.code
-  meaning_with under number =
-      let codes : layer_codes under (with_record day_of r es) ≡ recoded (layer_codes under es) (day_of r) r.code = fun_ext (λ d. code_with r es (under d) d) in
-      let days = map_with day_of itself r es in
-      ap (λ l. layer_meaning under l number) e
-      ∙ meanings_same under number codes days
-
--- New entries: the old ones with one taken out.
-module _ (es new : List Amendment) (day : ℕ) (up : rising day_of 0 es ≡ true) (e : new ≡ without day_of day es) where
-  -- they are in order
-  pub order_without : small_codes es ≡ true → InOrder new
-  order_without small = (ap (rising day_of 0) e ∙ rising_without day_of day 0 es up, (ap small_codes e ∙ small_without day es small, tt))
-
-  -- they mean that the day is restored
-  pub meaning_without : (under : ℕ → ℕ) (number : ℕ) → layer_meaning under new number ≡ restored (layer_meaning under es number) day
-  meaning_without under number =
-      let codes : layer_codes under (without day_of day es) ≡ recoded (layer_codes under es) day (under day) =
-      fun_ext (λ d. code_without 0 es (under d) day d up ∙ under_same under d day (code_now es (under d) d)) in
-      let days = map_without day_of itself day es in
-      ap (λ l. layer_meaning under l number) e
-      ∙ meanings_same under number codes days
+-- one taken out restores its day
+pub meaning_without : (day : ℕ) (es : List Amendment) (under : ℕ → ℕ) (number : ℕ) → rising day_of 0 es ≡ true → layer_meaning under (without day_of day es) number ≡ restored (layer_meaning under es number) day
+meaning_without day es under number up =
+    let codes : layer_codes under (without day_of day es) ≡ recoded (layer_codes under es) day (under day) =
+    fun_ext (λ d. let w = code_without 0 es (under d) day d up in grind (arith, nat_tests)) in
+    meanings_same under number codes (map_without day_of itself day es)

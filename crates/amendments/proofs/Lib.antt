@@ -1,3 +1,1 @@
 pub mod EntryCodes
-pub mod EntryPlaces
-pub mod EntryAnswers

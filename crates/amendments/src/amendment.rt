@@ -1,3 +1,4 @@
+use calendars::Code;
 use dates::Day;
 use tables::Keyed;
 
@@ -5,13 +6,13 @@ use tables::Keyed;
 #[derive(Clone, Copy)]
 pub struct Amendment {
     pub day: Day,
-    pub code: u8,
+    pub code: Code,
 }
 
 impl Keyed for Amendment {
     ghost key = { λ e. e.day.0 };
 
     fn key(&self) -> u64 {
-        self.day.0 as u64
+        u64::from(self.day.0)
     }
 }

@@ -1,6 +1,6 @@
 ghost use Rattle.std.specs.Prelude.{◌≡◌, ◌≤◌, true, length, take};
 ghost use Rattle.tables.specs.Tables.{rising};
-ghost use Rattle.amendments.specs.Layers.{day_of, small_codes};
+ghost use Rattle.amendments.specs.Layers.{day_of};
 
 use crate::amendment::Amendment;
 use calendars::Layer;
@@ -10,11 +10,11 @@ use calendars::Layer;
 pub struct AmendmentLayer<K> {
     under: K,
     layer: Layer,
+    // A fixed array and a count: no call may fail for want of memory.
     entries: [Amendment; 200],
     count: usize,
     ghost within: { (count ≤ 200) × (length entries ≡ 200) },
     ghost risen: { rising day_of 0 (take count entries) ≡ true },
-    ghost small: { small_codes (take count entries) ≡ true },
 }
 
 mod calls;

@@ -3,6 +3,7 @@
 #![tactic(auto)]
 
 mod calendar;
+mod code;
 mod easter_offset;
 mod good_days;
 mod joint;
@@ -14,6 +15,7 @@ mod target_days;
 mod weekly;
 
 pub use calendar::Calendar;
+pub use code::Code;
 pub use easter_offset::{EasterOffset, EasterRule};
 pub use good_days::is_good_day;
 pub use joint::Joint;

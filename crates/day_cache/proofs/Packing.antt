@@ -1,10 +1,10 @@
 -- Codes of four bits by shift and mask.
-use Rattle.std.proofs.Common.{◌≡◌, ℕ, ◌+◌, ◌-◌, ◌*◌, ◌/◌, ◌%◌, ◌^◌, ◌<◌, ◌≤◌, cond, ◌≢◌, List, length, get_or, set, sym, refl, ap, ◌∙◌, subst, inl, inr, arith}
+use Rattle.std.proofs.Common.{◌≡◌, ℕ, ◌+◌, ◌-◌, ◌*◌, ◌/◌, ◌%◌, ◌^◌, ◌<◌, ◌≤◌, eqb, ◌≢◌, List, length, get_or, set, sym, ap, ◌∙◌, subst, inl, inr, arith}
 use mathlib.Core.Path.{fun_ext}
 use lib.Bits.{bit_and, bit_or}
 use Rattle.std.proofs.lemmas.Nat.{pow_pos, pow-add, shr-shr, field_of, and_mask, or_shifted, shr_below, shl_whole, one_shl, shr_high, mod_low, mod_below, mod-pow-add}
 use Rattle.std.proofs.lemmas.List.{get_or-set_same, get_or-set_other}
-use Rattle.std.proofs.lemmas.Bool.{cases_order, cases_eq, eq-eqb, ne_eqb}
+use Rattle.std.proofs.lemmas.Bool.{cases_order, cases_eq, cond_both, eqb-true, eqb-false}
 use Rattle.amendments.specs.Meanings.{recoded}
 use Rattle.day_cache.specs.Nibbles.{nibble, with_nibble, kept_code}
 
@@ -74,33 +74,18 @@ packed w p c hw hp hc =
     let whole = or_shifted (a * 2 ^ 4 + c) (4 * p) (w % 2 ^ (4 * p)) (low_fits w p) in
     cc
 
--- the place that was recoded
-pub recoded_same : (g : ℕ → ℕ) (k c : ℕ) → recoded g k c k ≡ c
-recoded_same g k c = ap (λ b. cond b c (g k)) (eq-eqb k k refl)
-
--- every other place
-pub recoded_other : (g : ℕ → ℕ) (k c m : ℕ) → m ≢ k → recoded g k c m ≡ g m
-recoded_other g k c m ne = ap (λ b. cond b c (g m)) (ne_eqb m k ne)
-
--- codes that are this one at a place and as before elsewhere
-pub recoded_at : (f g : ℕ → ℕ) (k c : ℕ) → f k ≡ c → ((m : ℕ) → m ≢ k → f m ≡ g m) → f ≡ recoded g k c
-recoded_at f g k c here there =
-    fun_ext
-    (λ m.
-    elim (cases_eq m k) [
-      | inl same ↦ ap f same ∙ here ∙ sym (ap (recoded g k c) same ∙ recoded_same g k c)
-      | inr ne ↦ there m ne ∙ sym (recoded_other g k c m ne)
-    ])
-
 -- a row of words with one code replaced
 pub kept_set : (ws : List ℕ) (k c v : ℕ) → k / 16 < length ws → c ≤ 15 → v ≡ with_nibble (get_or ws (k / 16) 0) (k % 16) c
     → kept_code (set ws (k / 16) v) ≡ recoded (kept_code ws) k c
 kept_set ws k c v l h e =
     let w : ℕ = get_or ws (k / 16) 0 in
     let here : get_or (set ws (k / 16) v) (k / 16) 0 ≡ with_nibble w (k % 16) c = get_or-set_same ws (k / 16) v 0 l ∙ e in
-    recoded_at (kept_code (set ws (k / 16) v)) (kept_code ws) k c
-    (ap (λ x. nibble x (k % 16)) here ∙ nibble_same w (k % 16) c (omega arith))
-    (λ m ne.
+    fun_ext
+    (λ m.
+    cond_both (eqb m k) c (kept_code ws m) (λ x. kept_code (set ws (k / 16) v) m ≡ x)
+    (λ same. ap (kept_code (set ws (k / 16) v)) (eqb-true m k same) ∙ ap (λ x. nibble x (k % 16)) here ∙ nibble_same w (k % 16) c (omega arith))
+    (λ apart.
+    let ne = eqb-false m k apart in
     elim (cases_eq (m / 16) (k / 16)) [
       | inl row ↦
           ap (λ i. nibble (get_or (set ws (k / 16) v) i 0) (m % 16)) row
@@ -108,4 +93,4 @@ kept_set ws k c v l h e =
           ∙ nibble_other w (k % 16) (m % 16) c (omega arith) (λ q. ne (omega arith))
           ∙ ap (λ i. nibble (get_or ws i 0) (m % 16)) (sym row)
       | inr other ↦ ap (λ x. nibble x (m % 16)) (get_or-set_other ws (k / 16) (m / 16) v 0 other)
-    ])
+    ]))

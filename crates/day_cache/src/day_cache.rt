@@ -1,79 +1,38 @@
-ghost use Rattle.std.specs.Prelude.{◌≡◌, ℕ, ◌≤◌, length, Ok};
-ghost use Rattle.faults.specs.Refusals.{told, calendar_refusal};
-ghost use Rattle.amendments.specs.Meanings.{meaning, recoded, amend_answer, restore_answer, after_close, after_open, after_restore};
-ghost use Rattle.day_cache.specs.Caches.{cache_codes, start_day, cache_small, Faithful};
-ghost use Rattle.std.proofs.Common.{rules, arith};
+ghost use Rattle.std.specs.Prelude.{◌≡◌, ℕ, ◌≤◌};
+ghost use Rattle.day_cache.specs.Caches.{start_day, Faithful, Faithful-prop};
 
-use crate::nibbles::{keep_code, kept_code};
+use crate::kept_days::KeptDays;
 use amendments::Amendable;
 use calendars::Calendar;
 use dates::Day;
 use faults::CalendarFault;
 
-/// How many days are kept.
-const DAYS: u32 = 1_024;
-
-/// The last day from which so many are days of the calendars.
-const LAST_START: u32 = 108_549;
-
-/// An amendable calendar with the codes of 1,024 of its days kept, sixteen to a word.
+/// An amendable calendar with the codes of 1,024 of its days kept.
 #[derive(Drop)]
-pub struct DayCache<P> {
+pub struct DayCache<P: Calendar> {
     lower: P,
-    start: u32,
-    words: [u64; 64],
-    ghost within: { (start ≤ 108549) × (length words ≡ 64) },
+    kept: KeptDays,
+    ghost faithful: { Faithful kept.words kept.start (P.Calendar.codes lower) } by { Faithful-prop kept.words kept.start (P.Calendar.codes lower) },
 }
 
 impl<P: Amendable> DayCache<P> {
     /// The cache of the days from a start, filled; a start above 108,549 counts as 108,549.
     pub fn new(lower: P, start: Day) -> DayCache<P>
-        ensures is { (result.lower ≡ lower) × (result.start ≡ start_day start.0) }
-        ensures faithful { Faithful result.words result.start (P.Calendar.codes result.lower) }
+        ensures { (result.lower ≡ lower) × (result.kept.start ≡ start_day start.0) }
     {
-        let start = start.0.min(LAST_START);
-        let mut words = [0; 64];
-        for k in 0..DAYS {
-            if let Ok(code) = lower.code(Day(start + k)) {
-                keep_code(&mut words, k, code);
-            }
-        }
-        DayCache {
-            lower,
-            start,
-            words,
-        }
-    }
-
-    /// Reads a day afresh from the lower calendar, if it is one of those that are kept.
-    fn refresh(&mut self, day: Day) -> Result<(), CalendarFault>
-        requires { day.0 ≤ 109572 }
-        ensures answer { result ≡ Ok tt }
-        ensures lower { self.new.lower ≡ self.old.lower }
-        ensures codes { cache_codes self.new.words self.new.start (P.Calendar.codes self.new.lower) ≡ recoded (cache_codes self.old.words self.old.start (P.Calendar.codes self.old.lower)) day.0 (P.Calendar.codes self.old.lower day.0) }
-    {
-        let code = self.lower.code(day)?;
-        if day.0 >= self.start {
-            let k = day.0 - self.start;
-            if k < DAYS {
-                keep_code(&mut self.words, k, code);
-            }
-        }
-        Ok(())
+        let kept = KeptDays::new(&lower, start);
+        DayCache { lower, kept }
     }
 }
 
 impl<P: Amendable> Calendar for DayCache<P> {
-    ghost codes = { λ s. cache_codes s.words s.start (P.Calendar.codes s.lower) };
+    ghost codes = { λ s. P.Calendar.codes s.lower };
 
-    ghost small = { λ s d. cache_small s.words s.start (P.Calendar.codes s.lower) d (P.Calendar.small s.lower d) };
+    ghost small = { λ s. P.Calendar.small s.lower };
 
     fn code(&self, day: Day) -> Result<u8, CalendarFault> {
-        if day.0 >= self.start {
-            let k = day.0 - self.start;
-            if k < DAYS {
-                return Ok(kept_code(&self.words, k));
-            }
+        if let Some(code) = self.kept.code(day) {
+            return Ok(code);
         }
         self.lower.code(day)
     }
@@ -82,13 +41,13 @@ impl<P: Amendable> Calendar for DayCache<P> {
 impl<P: Amendable> Amendable for DayCache<P> {
     ghost rest = { λ s. P.Amendable.rest s.lower };
 
-    ghost numbered = { first_of (Prim.search rules, Prim.grind (arith, Self.row.coded.inj)) };
+    ghost numbered = { λ s. P.Amendable.numbered s.lower };
 
-    ghost small = { first_of (Prim.search rules, Prim.grind (arith, Self.row.coded.inj)) };
+    ghost small = { λ s. P.Amendable.small s.lower };
 
-    ghost risen = { first_of (Prim.search rules, Prim.grind (arith, Self.row.coded.inj)) };
+    ghost risen = { λ s. P.Amendable.risen s.lower };
 
-    ghost few = { first_of (Prim.search rules, Prim.grind (arith, Self.row.coded.inj)) };
+    ghost few = { λ s. P.Amendable.few s.lower };
 
     fn code_under(&self, day: Day) -> Result<u8, CalendarFault> {
         self.lower.code_under(day)
@@ -106,30 +65,21 @@ impl<P: Amendable> Amendable for DayCache<P> {
         self.lower.number()
     }
 
-    fn close(&mut self, day: Day) -> Result<(), CalendarFault>
-        ensures answer { told calendar_refusal result ≡ amend_answer (P.Amendable.rest self.old.lower) day.0 }
-        ensures after { meaning (cache_codes self.new.words self.new.start (P.Calendar.codes self.new.lower)) (P.Amendable.rest self.new.lower) ≡ after_close (meaning (cache_codes self.old.words self.old.start (P.Calendar.codes self.old.lower)) (P.Amendable.rest self.old.lower)) day.0 }
-        ensures faithful { Faithful self.old.words self.old.start (P.Calendar.codes self.old.lower) → Faithful self.new.words self.new.start (P.Calendar.codes self.new.lower) }
-    {
-        self.lower.close(day)?;
-        self.refresh(day)
+    fn close(&mut self, day: Day) -> Result<(), CalendarFault> {
+        let answer = self.lower.close(day);
+        self.kept.refresh(&self.lower, day);
+        answer
     }
 
-    fn open(&mut self, day: Day) -> Result<(), CalendarFault>
-        ensures answer { told calendar_refusal result ≡ amend_answer (P.Amendable.rest self.old.lower) day.0 }
-        ensures after { meaning (cache_codes self.new.words self.new.start (P.Calendar.codes self.new.lower)) (P.Amendable.rest self.new.lower) ≡ after_open (meaning (cache_codes self.old.words self.old.start (P.Calendar.codes self.old.lower)) (P.Amendable.rest self.old.lower)) day.0 }
-        ensures faithful { Faithful self.old.words self.old.start (P.Calendar.codes self.old.lower) → Faithful self.new.words self.new.start (P.Calendar.codes self.new.lower) }
-    {
-        self.lower.open(day)?;
-        self.refresh(day)
+    fn open(&mut self, day: Day) -> Result<(), CalendarFault> {
+        let answer = self.lower.open(day);
+        self.kept.refresh(&self.lower, day);
+        answer
     }
 
-    fn restore(&mut self, day: Day) -> Result<(), CalendarFault>
-        ensures answer { told calendar_refusal result ≡ restore_answer (P.Amendable.rest self.old.lower) day.0 }
-        ensures after { meaning (cache_codes self.new.words self.new.start (P.Calendar.codes self.new.lower)) (P.Amendable.rest self.new.lower) ≡ after_restore (meaning (cache_codes self.old.words self.old.start (P.Calendar.codes self.old.lower)) (P.Amendable.rest self.old.lower)) day.0 }
-        ensures faithful { Faithful self.old.words self.old.start (P.Calendar.codes self.old.lower) → Faithful self.new.words self.new.start (P.Calendar.codes self.new.lower) }
-    {
-        self.lower.restore(day)?;
-        self.refresh(day)
+    fn restore(&mut self, day: Day) -> Result<(), CalendarFault> {
+        let answer = self.lower.restore(day);
+        self.kept.refresh(&self.lower, day);
+        answer
     }
 }

@@ -3,6 +3,7 @@
 #![tactic(auto)]
 
 mod day_cache;
+mod kept_days;
 mod nibbles;
 
 pub use day_cache::DayCache;

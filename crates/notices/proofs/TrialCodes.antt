@@ -1,14 +1,9 @@
 -- The calendar after a notice, as trials have it.
-use Rattle.std.proofs.Common.{◌≡◌, ℕ, ◌≤◌, min, ap}
-use native.Mathlib.Nat.{min-eq_left}
+use Rattle.std.proofs.Common.{◌≡◌, ℕ, ap}
 use Rattle.dates.specs.declared.day.Day.{Day}
 use Rattle.amendments.specs.Meanings.{Meaning, recoded}
 use Rattle.notices.specs.declared.notice.Notice.TheVariants.{Declare, Cancel, Move, Withdraw}
 use Rattle.notices.specs.Notices.{calendar_after}
-
--- a code up to 15 is kept as it is
-pub code_kept : (code : ℕ) → code ≤ 15 → min code 15 ≡ code
-code_kept code h = min-eq_left h
 
 module _ (m : Meaning) where
   -- one trial with the calendar's number closes the declared day

@@ -1,8 +1,8 @@
-ghost use Rattle.std.specs.Prelude.{◌≡◌, ◌+◌, ◌≤◌, [], length, if◌then◌else◌, Ok, nat_le};
+ghost use Rattle.std.specs.Prelude.{◌≡◌, ◌+◌, ◌≤◌, [], ◌∷◌, length, if◌then◌else◌, Ok, nat_le};
 ghost use Rattle.faults.specs.Refusals.{told, calendar_refusal, refusal, refuse};
 ghost use Rattle.dates.specs.Civil.{asked};
 ghost use Rattle.amendments.specs.Meanings.{meaning, is_entered};
-ghost use Rattle.notices.specs.Notices.{calendar_after, calendar_answer, after_notice};
+ghost use Rattle.notices.specs.Notices.{calendar_after, calendar_answer, after_notice, in_calendar, to_close, to_open};
 ghost use Rattle.notices.specs.NoticeLaws.{NoticeLaw};
 
 use crate::notice::Notice;
@@ -21,48 +21,40 @@ fn check_day(day: Day) -> Result<(), CalendarFault>
     Ok(())
 }
 
+/// 12 unless the day is good, or unless it is closed, as it has to be.
+fn check_state<P: Amendable>(calendar: &P, day: Day, good: bool) -> Result<(), Fault>
+    ensures { told refusal result ≡ in_calendar (day.0 ∷ []) ((if good then to_close else to_open) (meaning (P.Calendar.codes calendar.now) (P.Amendable.rest calendar.now)) day.0 (Ok tt)) }
+{
+    if calendar.is_good(day)? != good {
+        return Err(SheetFault::WrongState(day.0).into());
+    }
+    Ok(())
+}
+
 /// How many entries a day adds: 1 unless it is entered.
 fn new_entries<P: Amendable>(calendar: &P, day: Day) -> Result<usize, CalendarFault>
     ensures { told calendar_refusal result ≡ asked day.0 (if is_entered (P.Amendable.rest calendar.now) day.0 then 0 else 1) }
 {
-    if calendar.is_entered(day)? {
-        Ok(0)
-    } else {
-        Ok(1)
-    }
+    Ok(usize::from(!calendar.is_entered(day)?))
 }
 
 /// 14 if there would be more than 200 entries with so many more.
-fn check_room<P: Amendable>(calendar: &P, more: usize) -> Result<(), CalendarFault>
+fn check_room<P: Amendable>(calendar: &P, more: usize) -> Result<(), Fault>
     requires { more ≤ 2 }
-    ensures { told calendar_refusal result ≡ (if nat_le (length (P.Amendable.rest calendar.now).entered + more) 200 then Ok tt else refuse 14 []) }
+    ensures { told refusal result ≡ (if nat_le (length (P.Amendable.rest calendar.now).entered + more) 200 then Ok tt else refuse 14 []) }
 {
     if calendar.entry_count() + more > 200 {
-        return Err(CalendarFault::EntriesFull);
+        return Err(CalendarFault::EntriesFull.into());
     }
     Ok(())
 }
 
-fn check_declare<P: Amendable>(calendar: &P, day: Day) -> Result<(), Fault>
-    ensures { told refusal result ≡ calendar_answer (meaning (P.Calendar.codes calendar.now) (P.Amendable.rest calendar.now)) (Notice.Declare day) }
+/// What is refused of declaring a day, which has to be good, or of cancelling it, which has to be closed.
+fn check_one<P: Amendable>(calendar: &P, day: Day, good: bool) -> Result<(), Fault>
+    ensures { told refusal result ≡ calendar_answer (meaning (P.Calendar.codes calendar.now) (P.Amendable.rest calendar.now)) (if good then Notice.Declare day else Notice.Cancel day) }
 {
-    if !calendar.is_good(day)? {
-        return Err(Fault::Sheet(SheetFault::WrongState(day.0)));
-    }
-    let more = new_entries(calendar, day)?;
-    check_room(calendar, more)?;
-    Ok(())
-}
-
-fn check_cancel<P: Amendable>(calendar: &P, day: Day) -> Result<(), Fault>
-    ensures { told refusal result ≡ calendar_answer (meaning (P.Calendar.codes calendar.now) (P.Amendable.rest calendar.now)) (Notice.Cancel day) }
-{
-    if calendar.is_good(day)? {
-        return Err(Fault::Sheet(SheetFault::WrongState(day.0)));
-    }
-    let more = new_entries(calendar, day)?;
-    check_room(calendar, more)?;
-    Ok(())
+    check_state(calendar, day, good)?;
+    check_room(calendar, new_entries(calendar, day)?)
 }
 
 fn check_move<P: Amendable>(calendar: &P, from: Day, to: Day) -> Result<(), Fault>
@@ -70,29 +62,23 @@ fn check_move<P: Amendable>(calendar: &P, from: Day, to: Day) -> Result<(), Faul
 {
     check_day(from)?;
     check_day(to)?;
-    if from.0 == to.0 {
-        return Err(Fault::Sheet(SheetFault::SameDay));
+    if from == to {
+        return Err(SheetFault::SameDay.into());
     }
-    if calendar.is_good(from)? {
-        return Err(Fault::Sheet(SheetFault::WrongState(from.0)));
-    }
-    if !calendar.is_good(to)? {
-        return Err(Fault::Sheet(SheetFault::WrongState(to.0)));
-    }
+    check_state(calendar, from, false)?;
+    check_state(calendar, to, true)?;
     let first = new_entries(calendar, from)?;
     let second = new_entries(calendar, to)?;
-    check_room(calendar, first + second)?;
-    Ok(())
+    check_room(calendar, first + second)
 }
 
 fn check_withdraw<P: Amendable>(calendar: &P, day: Day) -> Result<(), Fault>
     ensures { told refusal result ≡ calendar_answer (meaning (P.Calendar.codes calendar.now) (P.Amendable.rest calendar.now)) (Notice.Withdraw day) }
 {
-    if calendar.is_entered(day)? {
-        Ok(())
-    } else {
-        Err(Fault::Calendar(CalendarFault::NotEntered(day.0)))
+    if !calendar.is_entered(day)? {
+        return Err(CalendarFault::NotEntered(day.0).into());
     }
+    Ok(())
 }
 
 /// Refuses a notice that the calendar does not allow.
@@ -101,8 +87,8 @@ pub fn check_notice<P: Amendable>(calendar: &P, notice: Notice) -> Result<(), Fa
     ensures law { NoticeLaw (meaning (P.Calendar.codes calendar.now) (P.Amendable.rest calendar.now)) notice }
 {
     match notice {
-        Notice::Declare(day) => check_declare(calendar, day),
-        Notice::Cancel(day) => check_cancel(calendar, day),
+        Notice::Declare(day) => check_one(calendar, day, true),
+        Notice::Cancel(day) => check_one(calendar, day, false),
         Notice::Move(from, to) => check_move(calendar, from, to),
         Notice::Withdraw(day) => check_withdraw(calendar, day),
     }

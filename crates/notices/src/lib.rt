@@ -3,11 +3,10 @@
 #![tactic(auto)]
 
 mod amending;
-mod code;
 mod notice;
 mod trial;
 
 pub use amending::{amend, check_notice};
-pub use code::Code;
+pub use calendars::Code;
 pub use notice::Notice;
 pub use trial::Trial;

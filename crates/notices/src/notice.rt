@@ -1,6 +1,7 @@
 use dates::Day;
 
 /// What a notice asks of a calendar.
+// An enum and no closure: definitions and laws speak of notices as data.
 #[derive(Clone, Copy)]
 pub enum Notice {
     /// Close a good day.

@@ -1,9 +1,8 @@
-ghost use Rattle.std.specs.Prelude.{ℕ, ◌≤◌};
+ghost use Rattle.std.specs.Prelude.{ℕ, ◌≤◌, ◌==◌};
+ghost use Rattle.std.proofs.lemmas.Bool.{cond_both};
 ghost use Rattle.amendments.specs.Meanings.{recoded};
-ghost use Rattle.notices.specs.Trials.{recoded_small};
 
-use crate::code::Code;
-use calendars::Calendar;
+use calendars::{Calendar, Code};
 use dates::Day;
 use faults::CalendarFault;
 
@@ -18,19 +17,14 @@ pub struct Trial<'a, K> {
 impl<'a, K: Calendar> Calendar for Trial<'a, K> {
     ghost codes = { λ t. recoded (K.Calendar.codes t.under.now) t.day.0 t.code.value };
 
-    ghost small = { λ t d. recoded_small (K.Calendar.codes t.under.now) t.day.0 t.code.value (K.Calendar.small t.under.now) t.code.small d };
+    ghost small = { λ t d. cond_both (d == t.day.0) t.code.value (K.Calendar.codes t.under.now d) (λ c. c ≤ 15) (λ _. t.code.small) (λ _. K.Calendar.small t.under.now d) };
 
     fn code(&self, day: Day) -> Result<u8, CalendarFault> {
         let code = self.under.code(day)?;
-        if day.0 == self.day.0 {
-            Ok(self.code.value())
+        Ok(if day == self.day {
+            self.code.value()
         } else {
-            Ok(code)
-        }
-    }
-
-    fn is_good(&self, day: Day) -> Result<bool, CalendarFault> {
-        let code = self.code(day)?;
-        Ok(code == 0)
+            code
+        })
     }
 }

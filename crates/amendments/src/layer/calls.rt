@@ -1,18 +1,19 @@
-ghost use Rattle.std.specs.Prelude.{◌≡◌, ◌≤◌, [], take};
-ghost use Rattle.std.proofs.Common.{◌∙◌, arith, rules};
+ghost use Rattle.std.specs.Prelude.{◌≡◌, []};
+ghost use Rattle.std.proofs.Common.{◌∙◌, arith};
 ghost use Rattle.faults.specs.Refusals.{told, calendar_refusal};
 ghost use Rattle.calendars.specs.Codes.{layer_of};
 ghost use Rattle.tables.specs.Tables.{found};
 ghost use Rattle.tables.specs.TableLaws.{Within};
 ghost use Rattle.amendments.specs.Meanings.{meaning, if_granted, amended, amend_answer, itself};
-ghost use Rattle.amendments.specs.Layers.{day_of, layer_codes, layer_rest, layer_meaning, layer_small};
+ghost use Rattle.amendments.specs.Layers.{day_of, layer_small};
+ghost use Rattle.amendments.specs.LayerViews.{entries_of, layer_now};
 ghost use Rattle.tables.proofs.Views.{rising_map};
 ghost use Rattle.std.proofs.lemmas.List.{length-map, length-take-le};
 
 use crate::amendable::Amendable;
 use crate::amendment::Amendment;
 use crate::layer::AmendmentLayer;
-use calendars::{Calendar, Layer};
+use calendars::{Calendar, Code, Layer};
 use dates::{Day, LAST_DAY};
 use faults::CalendarFault;
 use tables::{find, insert, remove};
@@ -20,11 +21,11 @@ use tables::{find, insert, remove};
 impl<K: Calendar> AmendmentLayer<K> {
     /// A layer without entries, of a number from 1 to 15; any other counts as 15.
     pub fn new(under: K, number: u8) -> AmendmentLayer<K>
-        ensures { layer_meaning (K.Calendar.codes result.under) (take result.count result.entries) result.layer.number ≡ meaning (K.Calendar.codes under) (record { under = K.Calendar.codes under; entered = []; number = layer_of number }) }
+        ensures { layer_now K.Calendar.codes result ≡ meaning (K.Calendar.codes under) (record { under = K.Calendar.codes under; entered = []; number = layer_of number }) }
     {
         let empty = Amendment {
             day: Day(0),
-            code: 0,
+            code: Code::new(0),
         };
         AmendmentLayer {
             under,
@@ -36,18 +37,16 @@ impl<K: Calendar> AmendmentLayer<K> {
 
     /// Where the day's entry is, or else where it belongs.
     fn find(&self, day: Day) -> Result<usize, usize>
-        ensures is { result ≡ found day_of day.0 (take self.now.count self.now.entries) }
+        ensures is { result ≡ found day_of day.0 (entries_of self.now) }
         ensures bound { Within self.now.count result }
     {
-        let places = &self.entries[..];
-        find(&places[0..self.count], day.0 as u64)
+        find(&self.entries[..self.count], u64::from(day.0))
     }
 
     /// Enters a day with a code; one that is entered has its one entry altered.
-    fn amend(&mut self, day: Day, code: u8) -> Result<(), CalendarFault>
-        requires { code ≤ 15 }
-        ensures answer { told calendar_refusal result ≡ amend_answer (layer_rest (K.Calendar.codes self.old.under) (take self.old.count self.old.entries) self.old.layer.number) day.0 }
-        ensures after { layer_meaning (K.Calendar.codes self.new.under) (take self.new.count self.new.entries) self.new.layer.number ≡ if_granted (told calendar_refusal result) (amended (layer_meaning (K.Calendar.codes self.old.under) (take self.old.count self.old.entries) self.old.layer.number) day.0 code) (layer_meaning (K.Calendar.codes self.old.under) (take self.old.count self.old.entries) self.old.layer.number) }
+    fn amend(&mut self, day: Day, code: Code) -> Result<(), CalendarFault>
+        ensures answer { told calendar_refusal result ≡ amend_answer (layer_now K.Calendar.codes self.old).rest day.0 }
+        ensures after { layer_now K.Calendar.codes self.new ≡ if_granted (told calendar_refusal result) (amended (layer_now K.Calendar.codes self.old) day.0 code.value) (layer_now K.Calendar.codes self.old) }
     {
         if day.0 > LAST_DAY {
             return Err(CalendarFault::DayAbove(day.0));
@@ -65,32 +64,30 @@ impl<K: Calendar> AmendmentLayer<K> {
 }
 
 impl<K: Calendar> Calendar for AmendmentLayer<K> {
-    ghost codes = { λ s. layer_codes (K.Calendar.codes s.under) (take s.count s.entries) };
+    ghost codes = { λ s. (layer_now K.Calendar.codes s).codes };
 
-    ghost small = { λ s d. layer_small (take s.count s.entries) (K.Calendar.codes s.under d) d s.small (K.Calendar.small s.under d) };
+    ghost small = { λ s d. layer_small (entries_of s) (K.Calendar.codes s.under d) d (K.Calendar.small s.under d) };
 
     fn code(&self, day: Day) -> Result<u8, CalendarFault> {
         let under = self.under.code(day)?;
+        // A match: in `map_or`, the closure that reads a place would need a contract of its own.
         match self.find(day) {
-            Ok(at) => Ok(self.entries[at].code),
+            Ok(at) => Ok(self.entries[at].code.value()),
             Err(_) => Ok(under),
         }
     }
 }
 
 impl<K: Calendar> Amendable for AmendmentLayer<K> {
-    ghost rest = { λ s. layer_rest (K.Calendar.codes s.under) (take s.count s.entries) s.layer.number };
+    ghost rest = { λ s. (layer_now K.Calendar.codes s).rest };
 
-    ghost numbered = { first_of (Prim.search rules, Prim.grind (arith, Self.row.coded.inj)) };
+    ghost numbered = { λ s. s.layer.within };
 
-    ghost small = { first_of (Prim.search rules, Prim.grind (arith, Self.row.coded.inj)) };
+    ghost small = { λ s. K.Calendar.small s.under };
 
-    ghost risen = { λ s. rising_map day_of itself 0 (take s.count s.entries) ∙ s.risen };
+    ghost risen = { λ s. rising_map day_of itself 0 (entries_of s) ∙ s.risen };
 
-    ghost few = { λ s.
-        let m = length-map (take s.count s.entries) day_of in
-        let t = length-take-le s.count s.entries (omega arith) in
-        omega arith };
+    ghost few = { λ s. omega (arith, length-map (entries_of s) day_of, length-take-le s.count s.entries (omega arith)) };
 
     fn code_under(&self, day: Day) -> Result<u8, CalendarFault> {
         self.under.code(day)
@@ -112,19 +109,18 @@ impl<K: Calendar> Amendable for AmendmentLayer<K> {
     }
 
     fn close(&mut self, day: Day) -> Result<(), CalendarFault> {
-        let code = self.layer.number();
-        self.amend(day, code)
+        self.amend(day, Code::from(self.layer))
     }
 
     fn open(&mut self, day: Day) -> Result<(), CalendarFault> {
-        self.amend(day, 0)
+        self.amend(day, Code::new(0))
     }
 
     fn restore(&mut self, day: Day) -> Result<(), CalendarFault> {
         if day.0 > LAST_DAY {
             return Err(CalendarFault::DayAbove(day.0));
         }
-        if !remove(&mut self.entries, self.count, day.0 as u64) {
+        if !remove(&mut self.entries, self.count, u64::from(day.0)) {
             return Err(CalendarFault::NotEntered(day.0));
         }
         self.count -= 1;

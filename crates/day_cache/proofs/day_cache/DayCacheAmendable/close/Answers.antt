@@ -1,20 +1,9 @@
-use Rattle.std.proofs.Common.{refl, ap, ◌∙◌}
-use Rattle.faults.specs.Refusals.{told, calendar_refusal}
-use Rattle.amendments.specs.Meanings.{after_close, amend_answer}
-use Rattle.day_cache.specs.Caches.{cache_codes}
-use Rattle.day_cache.proofs.Afresh.{through}
+use Rattle.amendments.specs.Meanings.{meaning}
+use Rattle.day_cache.proofs.Afresh.{still_faithful}
 use Rattle.day_cache.proofs.day_cache.DayCacheAmendable.close.Goals as goal
 
-pub returns : goal.returns
-returns g c =
+pub invariant_of-self : goal.invariant_of-self
+invariant_of-self g c =
     let s = c.args.self.now in
-    let t = c.refresh.new.self in
-    let codes = g.P.Calendar.codes in
-    let rest = g.P.Amendable.rest in
-    let r = rest s.lower in
-    let d = c.args.day.0 in
-    let made = c.in_ok-close.ensures in
-    let read = c.refresh.ensures in
-    let both =
-    through codes rest s.lower c.close.new.self t.lower s.words s.start d (cache_codes t.words t.start (codes t.lower)) (λ m. after_close m d) (amend_answer r d) r.number _ (λ _. refl) made.answer made.after read.lower read.codes in
-    record { answer = ap (told calendar_refusal) read.answer ∙ made.answer; after = both.0; faithful = both.1 }
+    let mid = c.close-answer.new.self in
+    record { faithful = still_faithful s.kept.words s.kept.start c.args.day.0 _ (g.P.Calendar.codes s.lower) _ (meaning (g.P.Calendar.codes mid) (g.P.Amendable.rest mid)) _ _ _ s.faithful c.close-answer.ensures.after c.refresh.ensures.codes }
