@@ -22,6 +22,8 @@ returns-then-not-insert g c =
 pub invariant_of-self-2 : goal.invariant_of-self-2
 invariant_of-self-2 g c =
     let s = c.args.self.now in
+    let m : Meaning = meaning (g.P.Calendar.codes s.calendar) (g.P.Amendable.rest s.calendar) in
+    let tries : ℕ → List ℕ = g.C.Convention.tries s.convention in
     let x = c.in_ok-schedule.schedule in
     let fits : insertable place_number s.count (Live x) s.places ≡ true = sym c.insert.ensures.answer ∙ c.if-not-insert.false in
     let room = ltb-true s.count (length s.places) (and_parts (ltb s.count (length s.places)) _ fits).0 in
@@ -29,6 +31,7 @@ invariant_of-self-2 g c =
       within = (omega (arith, s.within.1), omega (arith, c.insert.auto.places, s.within.1));
       full = still_live s.places c.insert.new.places s.count x s.full fits c.insert.ensures.after;
       risen = still_rising s.places c.insert.new.places s.count x s.full fits c.insert.ensures.after s.risen;
+      fresh = still_sound s.places c.insert.new.places s.count x s.full fits c.insert.ensures.after tries m _ c.in_ok-schedule.ensures.is s.fresh;
     }
 
 pub returns : goal.returns
@@ -44,5 +47,4 @@ returns g c =
           ∙ entered_fresh s.places c.insert.new.places s.count x s.full fits c.insert.ensures.after tries m _ c.in_ok-schedule.ensures.is
           c.args.bond _ c.in_ok-terms.ensures.is c.in_ok-rolls.ensures;
       convention = refl;
-      fresh = still_sound s.places c.insert.new.places s.count x s.full fits c.insert.ensures.after tries m _ c.in_ok-schedule.ensures.is;
     }
