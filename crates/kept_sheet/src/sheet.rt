@@ -4,9 +4,9 @@ ghost use Rattle.tables.specs.Tables.{rising};
 ghost use Rattle.amendments.specs.Meanings.{meaning};
 ghost use Rattle.kept_sheet.specs.KeptBonds.{place_number, all_live, kept, Sound};
 
-use crate::place::Place;
 use amendments::Amendable;
 use conventions::Convention;
+use generation::Schedule;
 
 /// The most bonds that are live at once.
 const MOST_BONDS: usize = 32;
@@ -19,7 +19,7 @@ const MOST_ROLLS: u32 = 400;
 pub struct Sheet<P: Amendable, C: Convention> {
     calendar: P,
     convention: C,
-    places: [Place; 32],
+    places: [Option<Schedule>; 32],
     count: usize,
     ghost within: { (count ≤ 32) × (length places ≡ 32) },
     ghost full: { all_live (take count places) ≡ true },

@@ -8,7 +8,6 @@ ghost use Rattle.kept_sheet.specs.Entries.{has_room, admitted, entered, retired}
 ghost use Rattle.kept_sheet.specs.KeptBonds.{kept, bonds_of};
 ghost use Rattle.kept_sheet.specs.SheetViews.{kept_by, seen_sheet};
 
-use crate::place::Place;
 use crate::sheet::{MOST_BONDS, MOST_ROLLS, Sheet};
 use amendments::Amendable;
 use bonds::{Bond, Rolls, Terms};
@@ -19,19 +18,16 @@ use generation::Schedule;
 use tables::{find, insert, remove};
 
 /// How many rolls the bonds in some places have together.
-fn roll_total(places: &[Place]) -> u32
+fn roll_total(places: &[Option<Schedule>]) -> u32
     requires { length places.now ≤ 32 }
     ensures is { result ≡ roll_total (bonds_of (kept places.now)) }
     ensures bound { result ≤ 3200 }
 {
-    let mut total = 0;
-    for place in places {
-        match place {
-            Place::Live(schedule) => total += schedule.count(),
-            Place::Free => {}
-        }
-    }
-    total
+    places
+        .iter()
+        .flatten()
+        .map(|schedule| schedule.count())
+        .sum()
 }
 
 impl<P: Amendable, C: Convention> Sheet<P, C> {
@@ -43,18 +39,17 @@ impl<P: Amendable, C: Convention> Sheet<P, C> {
         Sheet {
             calendar,
             convention,
-            places: [Place::Free; 32],
+            places: [None; 32],
             count: 0,
         }
     }
 
     /// The places of the live bonds.
-    pub(crate) fn live(&self) -> &[Place]
+    pub(crate) fn live(&self) -> &[Option<Schedule>]
         ensures is { result.now ≡ take self.now.count self.now.places }
         ensures many { length result.now ≡ self.now.count }
     {
-        let places = &self.places[..];
-        &places[0..self.count]
+        &self.places[..self.count]
     }
 
     /// Whether a bond of this number is live.
@@ -96,7 +91,7 @@ impl<P: Amendable, C: Convention> Sheet<P, C> {
         let terms = bond.terms()?;
         let rolls = self.admit(terms)?;
         let schedule = Schedule::generate(&self.calendar, &self.convention, rolls)?;
-        if !insert(&mut self.places, self.count, Place::Live(schedule)) {
+        if !insert(&mut self.places, self.count, Some(schedule)) {
             return Err(Fault::Sheet(SheetFault::SheetFull(bond.number)));
         }
         self.count += 1;
