@@ -12,4 +12,5 @@ pub struct Schedule {
 }
 
 mod calls;
+mod keyed;
 mod retry;

@@ -1,5 +1,5 @@
 -- One more schedule in its place: what the sheet becomes, and that it still keeps what generation gives.
-use Rattle.std.proofs.Common.{◌≡◌, ℕ, ◌+◌, ◌<◌, ◌≤◌, true, false, not, ltb, List, length, take, Ok, Err, Result, sym, ap, ◌∙◌, arith}
+use Rattle.std.proofs.Common.{◌≡◌, ℕ, ◌+◌, ◌<◌, ◌≤◌, true, false, not, ltb, List, length, take, Ok, Err, Result, sym, ap, ◌∙◌, arith, Some}
 use Rattle.std.proofs.lemmas.List.{length-take-le}
 use Rattle.std.proofs.lemmas.Bool.{and_from, lt-ltb}
 use Rattle.faults.specs.Refusals.{Refusal}
@@ -13,11 +13,9 @@ use Rattle.bonds.specs.TermsOf.{terms_answer}
 use Rattle.generation.specs.declared.schedule.Schedule.{Schedule}
 use Rattle.generation.specs.Rolls.{RollDays}
 use Rattle.generation.specs.Schedules.{Scheduled, scheduled, all_rolls, schedule_answer, seen_schedule}
-use Rattle.kept_sheet.specs.declared.place.Place.{Place}
-use Rattle.kept_sheet.specs.declared.place.Place.TheVariants.{Live}
 use Rattle.kept_sheet.specs.FreshSheets.{After, number, good_days}
 use Rattle.kept_sheet.specs.Entries.{admitted, admitted_by, added, entered_by, entered}
-use Rattle.kept_sheet.specs.KeptBonds.{kept, all_live, place_number, bonds_of, view, Sound}
+use Rattle.kept_sheet.specs.KeptBonds.{Place, kept, all_live, place_number, bonds_of, view, Sound}
 use Rattle.kept_sheet.proofs.KeptPlaces.{by_number, kept_with, live_with, bonds_with, length_bonds, has_bond}
 use Rattle.kept_sheet.proofs.Admission.{stands}
 use Rattle.kept_sheet.proofs.Soundness.{from_each, to_each, each_with}
@@ -28,16 +26,16 @@ its_terms t (Err e) x p = let z : ◌≡◌ {A = ℕ} 0 1 = cc in absurd (let w 
 its_terms t (Ok days) x p = let z : record { terms = t; days = days } ≡ x = cc in ap (λ (y : Scheduled). y.terms) (sym z)
 
 module _ (E P : List Place) (n : ℕ) (s : Schedule) (live : all_live (take n E) ≡ true)
-    (fits : insertable place_number n (Live s) E ≡ true) (after : P ≡ after_insert place_number n (Live s) E) where
+    (fits : insertable place_number n (Some s) E ≡ true) (after : P ≡ after_insert place_number n (Some s) E) where
   -- the places of the live bonds
-  pub places_with : take (n + 1) P ≡ with_record place_number (Live s) (take n E)
-  places_with = ap (take (n + 1)) after ∙ take_after_insert place_number E n (Live s) fits
+  pub places_with : take (n + 1) P ≡ with_record place_number (Some s) (take n E)
+  places_with = ap (take (n + 1)) after ∙ take_after_insert place_number E n (Some s) fits
 
   pub still_live : all_live (take (n + 1) P) ≡ true
   still_live = ap all_live places_with ∙ live_with s (take n E) live
 
   pub still_rising : rising place_number 0 (take n E) ≡ true → rising place_number 0 (take (n + 1) P) ≡ true
-  still_rising up = ap (rising place_number 0) places_with ∙ rising_with place_number (Live s) 0 (take n E) up Prim.Native.Nat.zero-le
+  still_rising up = ap (rising place_number 0) places_with ∙ rising_with place_number (Some s) 0 (take n E) up Prim.Native.Nat.zero-le
 
   module _ (tries : ℕ → List ℕ) (m : Meaning) (t : Terms) (granted : Ok (seen_schedule s) ≡ schedule_answer (good_days m) tries t) where
     -- the fresh sheet has entered the bond
@@ -63,12 +61,12 @@ module _ (E P : List Place) (n : ℕ) (s : Schedule) (live : all_live (take n E)
 
 -- an admitted bond fits
 pub admitted_fits : (E : List Place) (n : ℕ) (s : Schedule) (t u : Terms) → length E ≡ 32 → n ≤ 32 → all_live (take n E) ≡ true
-    → Ok t ≡ admitted (bonds_of (kept (take n E))) u → (seen_schedule s).terms ≡ t → insertable place_number n (Live s) E ≡ true
+    → Ok t ≡ admitted (bonds_of (kept (take n E))) u → (seen_schedule s).terms ≡ t → insertable place_number n (Some s) E ≡ true
 admitted_fits E n s t u long few live a own =
     let w = stands (bonds_of (kept (take n E))) u t a in
     let l = length-take-le n E (omega arith) in
     let k = length_bonds (take n E) live in
     let free : n < length E = omega (arith, w.1.place) in
-    let absent : has place_number (place_number (Live s)) (take n E) ≡ false =
-    has_bond (place_number (Live s)) (take n E) live ∙ ap (λ (x : Terms). has number (number x) (bonds_of (kept (take n E)))) (own ∙ w.0) ∙ w.1.absent in
+    let absent : has place_number (place_number (Some s)) (take n E) ≡ false =
+    has_bond (place_number (Some s)) (take n E) live ∙ ap (λ (x : Terms). has number (number x) (bonds_of (kept (take n E)))) (own ∙ w.0) ∙ w.1.absent in
     and_from (ltb n (length E)) _ (lt-ltb n (length E) free) (ap not absent)

@@ -1,14 +1,15 @@
 -- The schedule of a number, found by its place.
-use Rattle.std.proofs.Common.{◌≡◌, ℕ, zero, suc, ◌<◌, Bool, true, false, cond, eqb, ltb, leb, List, [], ◌∷◌, length, get_or, Some, None, refl, ap, ◌∙◌, arith}
+use Rattle.std.proofs.Common.{◌≡◌, ℕ, suc, Bool, true, false, cond, Option, List, [], ◌∷◌, get_or, Some, None, Ok, Err, sym, refl, arith}
 use Rattle.std.proofs.lemmas.Bool.Decides.{nat_tests}
-use Rattle.std.proofs.lemmas.Bool.{false≢true, and_parts, ltb-true, ne_eqb}
-use Rattle.tables.specs.Tables.{rising, place, has}
+use Rattle.std.proofs.lemmas.Bool.{false≢true}
+use Rattle.std.specs.Option.{option_map, option_and_then, option_copied}
+use Rattle.std.specs.Result.{result_ok}
+use denote.Ref.{Bor}
+use Rattle.tables.specs.Tables.{rising, place, has, found}
 use Rattle.tables.proofs.Rises.{has_below}
 use Rattle.generation.specs.declared.schedule.Schedule.{Schedule}
 use Rattle.generation.specs.Schedules.{seen_schedule}
-use Rattle.kept_sheet.specs.declared.place.Place.{Place}
-use Rattle.kept_sheet.specs.declared.place.Place.TheVariants.{Free, Live}
-use Rattle.kept_sheet.specs.KeptBonds.{kept, all_live, place_number}
+use Rattle.kept_sheet.specs.KeptBonds.{Place, kept, all_live, place_number}
 use Rattle.kept_sheet.specs.Readings.{schedule_numbered}
 
 -- no bond has the number
@@ -16,34 +17,31 @@ pub none_numbered : (n low : ℕ) (ps : List Place) → all_live ps ≡ true →
     → schedule_numbered n (kept ps) ≡ None
 unfolding kept schedule_numbered
 none_numbered n low [] l r h = refl
-none_numbered n low (Free ∷ ps) l r h = absurd (false≢true l)
-none_numbered n low (Live s ∷ ps) l r h =
-    let more = none_numbered n (suc (place_number (Live s))) ps l in
-    let below = has_below place_number n (suc (place_number (Live s))) ps in
+none_numbered n low (None ∷ ps) l r h = absurd (false≢true l)
+none_numbered n low (Some s ∷ ps) l r h =
+    let more = none_numbered n (suc (place_number (Some s))) ps l in
+    let below = has_below place_number n (suc (place_number (Some s))) ps in
     grind (arith, nat_tests)
 
 -- the bond of the number stands at its place
-pub one_numbered : (n low : ℕ) (ps : List Place) (d : Place) (s : Schedule) → all_live ps ≡ true → rising place_number low ps ≡ true → has place_number n ps ≡ true
-    → get_or ps (place place_number n ps) d ≡ Live s → schedule_numbered n (kept ps) ≡ Some (seen_schedule s)
+pub one_numbered : (n low : ℕ) (ps : List Place) (d : Place) → all_live ps ≡ true → rising place_number low ps ≡ true → has place_number n ps ≡ true
+    → option_map seen_schedule (get_or ps (place place_number n ps) d) ≡ schedule_numbered n (kept ps)
 unfolding kept schedule_numbered
-one_numbered n low [] d s l r h e = absurd (false≢true h)
-one_numbered n low (Free ∷ ps) d s l r h e = absurd (false≢true l)
-one_numbered n low (Live t ∷ ps) d s l r h e =
-    go (one_numbered n (suc (place_number (Live t))) ps d s l (and_parts (leb low (place_number (Live t))) _ r).1) (ltb (place_number (Live t)) n) refl h e
-  where
-    go : (has place_number n ps ≡ true → get_or ps (place place_number n ps) d ≡ Live s → schedule_numbered n (kept ps) ≡ Some (seen_schedule s))
-        → (b : Bool) → ltb (place_number (Live t)) n ≡ b → cond b (has place_number n ps) (eqb (place_number (Live t)) n) ≡ true
-        → get_or (Live t ∷ ps) (cond b (suc (place place_number n ps)) 0) d ≡ Live s
-        → cond (eqb (place_number (Live t)) n) (Some (seen_schedule t)) (schedule_numbered n (kept ps)) ≡ Some (seen_schedule s)
-    go more true p q f =
-        let less = ltb-true (place_number (Live t)) n p in
-        let other : eqb (place_number (Live t)) n ≡ false = ne_eqb (place_number (Live t)) n (λ z. (let w : ⊥ = omega arith in w)) in
-        ap (λ (b : Bool). cond b (Some (seen_schedule t)) (schedule_numbered n (kept ps))) other ∙ more q f
-    go more false p q f = let z : t ≡ s = cc in rw q (ap (λ (x : Schedule). Some (seen_schedule x)) z)
+one_numbered n low [] d l r h = absurd (false≢true h)
+one_numbered n low (None ∷ ps) d l r h = absurd (false≢true l)
+one_numbered n low (Some t ∷ ps) d l r h = let more = one_numbered n (suc (place_number (Some t))) ps d l in grind (arith, nat_tests)
 
--- no place of a live bond is free
-pub none_free : (ps : List Place) (i : ℕ) (d : Place) → all_live ps ≡ true → i < length ps → get_or ps i d ≡ Free → ⊥
-none_free [] i d l h e = omega arith
-none_free (Free ∷ ps) i d l h e = false≢true l
-none_free (Live s ∷ ps) zero d l h e = let z : ◌≡◌ {A = ℕ} 0 1 = cc in omega arith
-none_free (Live s ∷ ps) (suc i) d l h e = none_free ps i d l (omega arith) e
+-- what a search among the live places answers, with the schedule that stands there
+pub numbered : (n : ℕ) (ps : List Place) (d : Place) → all_live ps ≡ true → rising place_number 0 ps ≡ true → (r : Option ℕ) → r ≡ result_ok (found place_number n ps)
+    → option_map seen_schedule (option_and_then (λ (i : ℕ). get_or ps i d) r) ≡ schedule_numbered n (kept ps)
+numbered n ps d l up r e = go (has place_number n ps) refl e
+  where
+    go : (b : Bool) → has place_number n ps ≡ b → r ≡ result_ok (cond b (Ok (place place_number n ps)) (Err (place place_number n ps)))
+        → option_map seen_schedule (option_and_then (λ (i : ℕ). get_or ps i d) r) ≡ schedule_numbered n (kept ps)
+    go true h f = rw f (one_numbered n 0 ps d l up h)
+    go false h f = rw f (sym (none_numbered n 0 ps l up h))
+
+-- a schedule that is lent is seen as it stands
+pub seen_lent : (o : Option (Bor Schedule)) → option_map (λ (s : Bor Schedule). seen_schedule s.now) o ≡ option_map seen_schedule (option_copied o)
+seen_lent None = refl
+seen_lent (Some s) = refl

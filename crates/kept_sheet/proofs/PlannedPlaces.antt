@@ -1,72 +1,69 @@
 -- Places as a notice would leave them, one after another.
-use Rattle.std.proofs.Common.{◌≡◌, ℕ, ◌+◌, ◌<◌, ◌≤◌, true, List, [], ◌∷◌, ◌++◌, map, length, get_or, take, drop, set, sym, refl, ap, ◌∙◌, arith}
-use Rattle.std.proofs.lemmas.List.{drop_more, drop_all, take_more_set, take_more, map_push, length-set, length-take-le, get_or-take}
+use Rattle.std.proofs.Common.{◌≡◌, ℕ, zero, suc, ◌+◌, ◌<◌, ◌≤◌, true, List, [], ◌∷◌, ◌++◌, map, length, get_or, take, drop, set, Some, None, Ok, Err, Result, sym, refl, ap, ◌∙◌, append-nil, arith}
+use Rattle.std.proofs.lemmas.List.{drop_more, drop_all, take_all, take_more_set, drop-set-lt}
 use Rattle.std.proofs.lemmas.Bool.{false≢true}
+use Rattle.faults.specs.Refusals.{Refusal}
 use Rattle.generation.specs.declared.schedule.Schedule.{Schedule}
 use Rattle.generation.specs.Schedules.{Scheduled, seen_schedule}
-use Rattle.generation.specs.Retrying.{counted_in}
-use Rattle.kept_sheet.specs.declared.place.Place.{Place}
-use Rattle.kept_sheet.specs.declared.place.Place.TheVariants.{Free, Live}
-use Rattle.kept_sheet.specs.KeptBonds.{kept, all_live, place_number}
-use Rattle.kept_sheet.specs.Notices.{counted}
-use Rattle.kept_sheet.specs.Plans.{SameBonds}
-
-module _ (ps : List Place) (i : ℕ) (inside : i < length ps) where
-  -- the place at i holds a bond
-  pub kept_next : (d : Place) (s : Schedule) → get_or ps i d ≡ Live s → kept (drop i ps) ≡ seen_schedule s ∷ kept (drop (i + 1) ps)
-  unfolding kept
-  kept_next d s e = ap kept (drop_more ps i d inside ∙ ap (λ (p : Place). p ∷ drop (i + 1) ps) e)
-
-  -- it is free
-  pub kept_skip : (d : Place) → get_or ps i d ≡ Free → kept (drop i ps) ≡ kept (drop (i + 1) ps)
-  unfolding kept
-  kept_skip d e = ap kept (drop_more ps i d inside ∙ ap (λ (p : Place). p ∷ drop (i + 1) ps) e)
-
--- nothing is kept in no places
-pub kept_none : (ps : List Place) (i : ℕ) → length ps ≤ i → kept (drop i ps) ≡ []
-unfolding kept
-kept_none ps i l = ap kept (drop_all i ps l)
-
--- the rolls of one more schedule that count
-pub counted_more : (tries : ℕ → List ℕ) (days : List ℕ) (x : Scheduled) (xs : List Scheduled) → counted tries days (x ∷ xs) ≡ counted_in tries days x + counted tries days xs
-unfolding counted
-counted_more tries days x xs = refl
-
-pub counted_none : (tries : ℕ → List ℕ) (days : List ℕ) → counted tries days [] ≡ 0
-unfolding counted
-counted_none tries days = refl
+use Rattle.generation.specs.Granting.{each_granted}
+use Rattle.generation.proofs.Granted.{prefixed, prefixed_none, granted_one, refused_one, granted_none}
+use Rattle.kept_sheet.specs.KeptBonds.{Place, kept, all_live, place_number}
 
 -- one more live place at the end
-pub kept_push : (ps : List Place) (s : Schedule) → kept (ps ++ (Live s ∷ [])) ≡ kept ps ++ (seen_schedule s ∷ [])
+kept_push : (ps : List Place) (s : Schedule) → kept (ps ++ (Some s ∷ [])) ≡ kept ps ++ (seen_schedule s ∷ [])
 unfolding kept
 kept_push [] s = refl
-kept_push (Free ∷ ps) s = kept_push ps s
-kept_push (Live r ∷ ps) s = ap (λ (xs : List Scheduled). seen_schedule r ∷ xs) (kept_push ps s)
+kept_push (None ∷ ps) s = kept_push ps s
+kept_push (Some r ∷ ps) s = ap (λ (xs : List Scheduled). seen_schedule r ∷ xs) (kept_push ps s)
 
-live_push : (ps : List Place) (s : Schedule) → all_live ps ≡ true → all_live (ps ++ (Live s ∷ [])) ≡ true
-live_push [] s e = refl
-live_push (Free ∷ ps) s e = absurd (false≢true e)
-live_push (Live r ∷ ps) s e = live_push ps s e
+module _ (f : Scheduled → Result Scheduled Refusal) where
+  -- the first i places are done, the others are still to do
+  abbrev pub done : ℕ → List Place → Result (List Scheduled) Refusal
+  done i ps = prefixed (kept (take i ps)) (each_granted f (kept (drop i ps)))
 
--- no place is done yet
-pub same_none : (ps : List Place) → SameBonds 0 ps ps
-same_none ps = record { long = refl; live = refl; numbers = refl }
+  pub none_done : (ps : List Place) → done 0 ps ≡ each_granted f (kept ps)
+  unfolding kept
+  none_done ps = prefixed_none _
 
--- a schedule of the same bond goes into the next place
-pub same_more : (old new : List Place) (i : ℕ) (d : Place) (r s : Schedule) → i < length old → get_or old i d ≡ Live r → place_number (Live s) ≡ place_number (Live r)
-    → SameBonds i old new → SameBonds (i + 1) old (set new i (Live s))
-same_more old new i d r s l e n b =
-    let room : i < length new = omega (arith, b.long) in
-    let put = take_more_set new i (Live s) room in
-    record {
-      long = length-set new i (Live s) ∙ b.long;
-      live = ap all_live put ∙ live_push (take i new) s b.live;
-      numbers =
-          ap (map place_number) put ∙ map_push place_number (take i new) (Live s) ∙ (λ j. b.numbers j ++ (n j ∷ []))
-          ∙ ap (λ (p : Place). map place_number (take i old) ++ (place_number p ∷ [])) (sym e)
-          ∙ sym (map_push place_number (take i old) (get_or old i d)) ∙ ap (map place_number) (sym (take_more old i d l));
-    }
+  module _ (ps : List Place) (i : ℕ) (inside : i < length ps) (d : Place) (s : Schedule) (here : get_or ps i d ≡ Some s) where
+    next : kept (drop i ps) ≡ seen_schedule s ∷ kept (drop (i + 1) ps)
+    unfolding kept
+    next = ap kept (drop_more ps i d inside ∙ ap (λ (p : Place). p ∷ drop (i + 1) ps) here)
 
--- the place at i is one of the first n
-pub place_of : (ps : List Place) (n i : ℕ) (d : Place) → n ≤ length ps → i < n → (i < length (take n ps)) × (get_or (take n ps) i d ≡ get_or ps i d)
-place_of ps n i d l h = let t = length-take-le n ps l in (omega arith, get_or-take n ps i d h)
+    -- the next is granted, and stands in its place
+    pub one_done : (t : Schedule) → f (seen_schedule s) ≡ Ok (seen_schedule t) → done (i + 1) (set ps i (Some t)) ≡ done i ps
+    one_done t e =
+        let put : kept (take (i + 1) (set ps i (Some t))) ≡ kept (take i ps) ++ (seen_schedule t ∷ []) = ap kept (take_more_set ps i (Some t) inside) ∙ kept_push (take i ps) t in
+        (λ j. prefixed (put j) (each_granted f (kept (drop-set-lt (i + 1) ps i (Some t) (omega arith) j))))
+        ∙ sym (granted_one f (kept (take i ps)) (seen_schedule s) (kept (drop (i + 1) ps)) (seen_schedule t) e)
+        ∙ ap (λ (xs : List Scheduled). prefixed (kept (take i ps)) (each_granted f xs)) (sym next)
+
+    -- it is refused
+    pub one_refused : (e : Refusal) → f (seen_schedule s) ≡ Err e → Err e ≡ done i ps
+    one_refused e r =
+        sym (refused_one f (kept (take i ps)) (seen_schedule s) (kept (drop (i + 1) ps)) e r) ∙ ap (λ (xs : List Scheduled). prefixed (kept (take i ps)) (each_granted f xs)) (sym next)
+
+  pub all_done : (ps : List Place) (i : ℕ) → length ps ≤ i → Ok (kept ps) ≡ done i ps
+  unfolding kept
+  all_done ps i l =
+      ap Ok (sym (append-nil (kept ps))) ∙ sym (granted_none f (kept ps))
+      ∙ sym (λ j. prefixed (kept (take_all i ps l j)) (each_granted f (kept (drop_all i ps l j))))
+
+-- a schedule in place of another of the same bond
+pub live_set : (ps : List Place) (i : ℕ) (s : Schedule) → all_live ps ≡ true → all_live (set ps i (Some s)) ≡ true
+live_set [] i s e = refl
+live_set (None ∷ ps) i s e = absurd (false≢true e)
+live_set (Some r ∷ ps) zero s e = e
+live_set (Some r ∷ ps) (suc i) s e = live_set ps i s e
+
+pub numbers_set : (ps : List Place) (i : ℕ) (d : Place) (s : Schedule) → place_number (Some s) ≡ place_number (get_or ps i d) → map place_number (set ps i (Some s)) ≡ map place_number ps
+numbers_set [] i d s e = refl
+numbers_set (p ∷ ps) zero d s e = ap (λ (n : ℕ). n ∷ map place_number ps) e
+numbers_set (p ∷ ps) (suc i) d s e = ap (λ (ns : List ℕ). place_number p ∷ ns) (numbers_set ps i d s e)
+
+-- no place of a live bond is free
+pub none_free : (ps : List Place) (i : ℕ) (d : Place) → all_live ps ≡ true → i < length ps → get_or ps i d ≡ None → ⊥
+none_free [] i d l h e = omega arith
+none_free (None ∷ ps) i d l h e = false≢true l
+none_free (Some s ∷ ps) zero d l h e = let z : ◌≡◌ {A = ℕ} 0 1 = cc in omega arith
+none_free (Some s ∷ ps) (suc i) d l h e = none_free ps i d l (omega arith) e

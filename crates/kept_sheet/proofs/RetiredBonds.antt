@@ -8,10 +8,9 @@ use Rattle.tables.proofs.Rises.{rising_without}
 use Rattle.amendments.specs.Meanings.{Meaning}
 use Rattle.bonds.specs.declared.terms.Terms.{Terms}
 use Rattle.generation.specs.Schedules.{Scheduled, schedule_answer}
-use Rattle.kept_sheet.specs.declared.place.Place.{Place}
 use Rattle.kept_sheet.specs.FreshSheets.{After, refused, number, good_days}
 use Rattle.kept_sheet.specs.Entries.{retired}
-use Rattle.kept_sheet.specs.KeptBonds.{kept, all_live, place_number, bonds_of, view, Sound}
+use Rattle.kept_sheet.specs.KeptBonds.{Place, kept, all_live, place_number, bonds_of, view, Sound}
 use Rattle.kept_sheet.proofs.KeptPlaces.{by_number, kept_without, live_without, bonds_without, has_bond}
 use Rattle.kept_sheet.proofs.Soundness.{from_each, to_each, each_without}
 

@@ -1,7 +1,6 @@
 -- The places of a sheet as a notice would leave them.
 use Rattle.std.specs.Prelude.{◌≡◌, ℕ, true, List, map, length, take}
-use Rattle.kept_sheet.specs.declared.place.Place.{Place}
-use Rattle.kept_sheet.specs.KeptBonds.{all_live, place_number}
+use Rattle.kept_sheet.specs.KeptBonds.{Place, all_live, place_number}
 
 -- the first n places hold the same bonds in the same order
 pub record SameBonds (n : ℕ) (old new : List Place) : Type 0 where

@@ -1,20 +1,19 @@
 -- A sheet of the code as a fresh sheet, by the meanings of its calendar and its convention.
-use Rattle.std.specs.Prelude.{ℕ, List, take}
-use Rattle.amendments.specs.Meanings.{Rest, meaning}
+use Rattle.std.specs.Prelude.{List, take}
+use Rattle.calendars.specs.declared.calendar.Calendar as calendars
+use Rattle.amendments.specs.declared.amendable.Amendable as amendments
+use Rattle.conventions.specs.declared.convention.Convention as conventions
+use Rattle.amendments.specs.Meanings.{meaning}
 use Rattle.generation.specs.Schedules.{Scheduled}
 use Rattle.kept_sheet.specs.declared.sheet.Sheet.{Sheet}
 use Rattle.kept_sheet.specs.FreshSheets.{Fresh}
-use Rattle.kept_sheet.specs.KeptBonds.{kept, view, Sound}
+use Rattle.kept_sheet.specs.KeptBonds.{kept, view}
 
-module _ {P C : Type 0} where
+module _ {P C : Type 0} {amendable : amendments.Ghosts P} {calendar : calendars.Ghosts P} {convention : conventions.Ghosts C} where
   -- the schedules that it keeps, by rising number of their bonds
-  abbrev pub kept_by : Sheet P C → List Scheduled
+  abbrev pub kept_by : Sheet P C amendable calendar convention → List Scheduled
   kept_by s = kept (take s.count s.places)
 
   -- its live bonds and what its calendar means
-  abbrev pub seen_sheet : (P → ℕ → ℕ) → (P → Rest) → Sheet P C → Fresh
-  seen_sheet codes rest s = view (meaning (codes s.calendar) (rest s.calendar)) (kept_by s)
-
-  -- it keeps what generation gives
-  abbrev pub KeepsFresh : (P → ℕ → ℕ) → (P → Rest) → (C → ℕ → List ℕ) → Sheet P C → Type 0
-  KeepsFresh codes rest tries s = Sound (tries s.convention) (meaning (codes s.calendar) (rest s.calendar)) (kept_by s)
+  abbrev pub seen_sheet : Sheet P C amendable calendar convention → Fresh
+  seen_sheet s = view (meaning (calendar.codes s.calendar) (amendable.rest s.calendar)) (kept_by s)

@@ -3,7 +3,6 @@
 #![tactic(auto)]
 
 mod call;
-mod place;
 mod plan;
 mod sheet;
 

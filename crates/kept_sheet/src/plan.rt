@@ -9,35 +9,36 @@ ghost use Rattle.kept_sheet.specs.KeptBonds.{kept, all_live};
 ghost use Rattle.kept_sheet.specs.Notices.{counted};
 ghost use Rattle.kept_sheet.specs.Plans.{SameBonds};
 
-use crate::place::Place;
 use calendars::Calendar;
 use conventions::Convention;
 use dates::Day;
 use faults::GenerationFault;
+use generation::Schedule;
 
 /// How many rolls in some places stand on one of the days.
-pub(crate) fn counted<C: Convention>(places: &[Place], convention: &C, days: &[Day]) -> u32
+pub(crate) fn counted<C: Convention>(
+    places: &[Option<Schedule>],
+    convention: &C,
+    days: &[Day],
+) -> u32
     requires { length places.now ≤ 32 }
     ensures { result ≡ counted (C.Convention.tries convention.now) (map number_of days.now) (kept places.now) }
 {
-    let mut total = 0;
-    for place in places {
-        match place {
-            Place::Live(schedule) => total += schedule.counted(convention, days),
-            Place::Free => {}
-        }
-    }
-    total
+    places
+        .iter()
+        .flatten()
+        .map(|schedule| schedule.counted(convention, days))
+        .sum()
 }
 
 /// The places as they would be on a calendar that has changed on these days, or the refusal of the first failing roll.
 pub(crate) fn retry_places<K: Calendar, C: Convention>(
-    places: [Place; 32],
+    places: [Option<Schedule>; 32],
     count: usize,
     calendar: &K,
     convention: &C,
     days: &[Day],
-) -> Result<[Place; 32], GenerationFault>
+) -> Result<[Option<Schedule>; 32], GenerationFault>
     requires few { count ≤ 32 }
     requires long { length places ≡ 32 }
     requires live { all_live (take count places) ≡ true }
@@ -45,13 +46,10 @@ pub(crate) fn retry_places<K: Calendar, C: Convention>(
     ensures same { IfOk result (λ ps. SameBonds count places ps) }
 {
     let mut anew = places;
-    for i in 0..count {
-        let place = &places[i];
-        match place {
-            Place::Live(schedule) => anew[i] = Place::Live(schedule.retry(
-                calendar, convention, days,
-            )?),
-            Place::Free => {}
+    let live = &mut anew[..count];
+    for place in live.iter_mut() {
+        if let Some(schedule) = place {
+            *schedule = schedule.retry(calendar, convention, days)?;
         }
     }
     Ok(anew)

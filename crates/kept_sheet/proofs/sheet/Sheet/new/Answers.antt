@@ -3,6 +3,10 @@ use Rattle.generation.specs.Granting.{each_granted}
 use Rattle.kept_sheet.specs.KeptBonds.{kept}
 use Rattle.kept_sheet.proofs.sheet.Sheet.new.Goals as goal
 
-pub returns : goal.returns
+pub invariant_of-result-clause-fresh : goal.invariant_of-result-clause-fresh
 unfolding kept each_granted
-returns g c = record { sheet = refl; convention = refl; fresh = refl }
+invariant_of-result-clause-fresh g c = refl
+
+pub returns-clause-sheet : goal.returns-clause-sheet
+unfolding kept
+returns-clause-sheet g c = refl

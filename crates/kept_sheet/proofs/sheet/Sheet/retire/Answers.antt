@@ -16,17 +16,19 @@ returns-then-not-remove g c =
     record {
       step = refused_fresh s.places c.remove.new.places s.count c.args.number s.full c.remove.ensures.after inside miss m;
       convention = refl;
-      fresh = λ sound. rw same sound;
     }
 
 pub invariant_of-self-2 : goal.invariant_of-self-2
 invariant_of-self-2 g c =
     let s = c.args.self.now in
+    let m : Meaning = meaning (g.P.Calendar.codes s.calendar) (g.P.Amendable.rest s.calendar) in
+    let tries : ℕ → List ℕ = g.C.Convention.tries s.convention in
     let hit : held place_number s.count c.args.number s.places ≡ true = sym c.remove.ensures.answer ∙ c.if-not-remove.false in
     record {
       within = (omega (arith, s.within.0), omega (arith, c.remove.auto.places, s.within.1));
       full = live_still s.places c.remove.new.places s.count c.args.number s.full c.remove.ensures.after hit;
       risen = rising_still s.places c.remove.new.places s.count c.args.number s.full c.remove.ensures.after hit s.risen;
+      fresh = sound_still s.places c.remove.new.places s.count c.args.number s.full c.remove.ensures.after hit tries m s.fresh;
     }
 
 pub returns : goal.returns
@@ -38,5 +40,4 @@ returns g c =
     record {
       step = retired_fresh s.places c.remove.new.places s.count c.args.number s.full c.remove.ensures.after hit m;
       convention = refl;
-      fresh = sound_still s.places c.remove.new.places s.count c.args.number s.full c.remove.ensures.after hit tries m;
     }
