@@ -1,6 +1,9 @@
 -- The first line, and then the lines of what follows.
-use Rattle.std.proofs.Common.{◌≡◌, ℕ, ◌+◌, ◌<◌, Bool, true, false, cond, eqb, List, [], ◌∷◌, length, take, drop, refl, ap, ◌∙◌, add-one, one-add, arith}
+use Rattle.std.proofs.Common.{◌≡◌, ℕ, ◌+◌, ◌<◌, Bool, true, false, cond, eqb, List, [], ◌∷◌, length, take, drop, position, unwrap_or, not, ◌==◌, refl, ap, ◌∙◌, add-one, one-add, arith}
 use Rattle.std.proofs.lemmas.List.{drop-drop}
+use Rattle.std.proofs.lemmas.List.Recursion.{is_position_or_len}
+use Rattle.std.proofs.lemmas.List.Folds.{length-prefix_len}
+use Rattle.std.proofs.lemmas.Grind.{common_steps}
 use Rattle.notation.specs.Readers.{before}
 use Rattle.notation.specs.InputLines.{onto, lines_of}
 
@@ -24,10 +27,17 @@ first_then : (bs : List ℕ) → 0 < length bs → lines_of bs ≡ first bs ∷ 
 first_then [] h = absurd (omega arith)
 first_then (b ∷ bs) h = first_at b bs (eqb b 10) (onto_first b bs)
 
--- the first line, by its length
-pub line_cut : (n : ℕ) (bs text tail after : List ℕ) → 0 < length bs → n ≡ before 10 bs → text ≡ take n bs → tail ≡ drop n bs → after ≡ drop 1 tail
+-- the first line, as it is cut
+pub line_cut : (bs text tail after : List ℕ) → 0 < length bs → text ≡ take (before 10 bs) bs → tail ≡ drop (before 10 bs) bs → after ≡ drop 1 tail
     → lines_of bs ≡ text ∷ lines_of after
-line_cut n bs text tail after some l t d a =
+line_cut bs text tail after some t d a =
     let f = first_then bs some in
-    let e = a ∙ ap (drop 1) d ∙ drop-drop 1 n bs in
-    rw (f, t, e, l) refl
+    let e = a ∙ ap (drop 1) d ∙ drop-drop 1 (before 10 bs) bs in
+    rw (f, t, e) refl
+
+-- the first place of a byte, or the length, as the library finds it
+pub before_is : (stop : ℕ) (bs : List ℕ) → before stop bs ≡ unwrap_or (position (λ b. b == stop) bs) (length bs)
+before_is stop bs =
+    let e = is_position_or_len (before stop) (λ b. b == stop) refl (λ _ _. refl) bs in
+    let l = length-prefix_len (λ b. not (b == stop)) bs in
+    grind (arith, common_steps)

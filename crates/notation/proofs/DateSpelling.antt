@@ -4,7 +4,6 @@ use Rattle.std.specs.Result.{result_ok}
 use Rattle.std.specs.Char.{is_ascii_digit}
 use Rattle.std.proofs.lemmas.List.{take-append-drop, drop-drop, drop_more, take_all, length-take, length-drop}
 use Rattle.std.proofs.lemmas.Bool.Decides.{nat_tests}
-use Rattle.faults.specs.Refusals.{Refusal, told}
 use Rattle.dates.specs.Civil.{day_answer, civil_answer, civil_at}
 use Rattle.dates.specs.declared.civil_date.CivilDate.{CivilDate}
 use Rattle.dates.specs.declared.day.Day.{Day}
@@ -85,7 +84,7 @@ ten bs l p q =
     cc
 
 some_and : {A B : Type 0} (o : Option A) (f : A → Option B) (y : B) → and_then o f ≡ Some y → (x : A) × (o ≡ Some x) × (f x ≡ Some y)
-some_and None f y e = absurd (let z : ◌≡◌ {A = ℕ} 0 1 = cc in omega arith)
+some_and None f y e = absurd (cc)
 some_and (Some x) f y e = (x, refl, e)
 
 civil_back : (bs : List ℕ) (c : CivilDate) → civil_of bs ≡ Some c → bs ≡ date_text c
@@ -106,7 +105,7 @@ civil_back bs c e =
 
 ok_some : {A E : Type 0} (r : Result A E) (x : A) → result_ok r ≡ Some x → r ≡ Ok x
 ok_some (Ok a) x e = cc
-ok_some (Err f) x e = absurd (let z : ◌≡◌ {A = ℕ} 0 1 = cc in omega arith)
+ok_some (Err f) x e = cc
 
 read_back : (bs : List ℕ) (d : Day) → date_of bs ≡ Some d → Dated bs d
 read_back bs d e =
@@ -116,14 +115,5 @@ read_back bs d e =
     let same : c.0 ≡ civil_at d.0 = grind (arith, nat_tests) in
     (low, civil_back bs c.0 c.1 ∙ ap date_text same)
 
--- a refusal told otherwise leaves the value
-pub ok_told : {A E : Type 0} (t : E → Refusal) (r : Result A E) → result_ok r ≡ result_ok (told t r)
-ok_told t (Ok a) = refl
-ok_told t (Err e) = refl
-
-pub date_laws : (bs : List ℕ) (r : Option Day) → r ≡ date_of bs
-    → record { is : r ≡ date_of bs; exactly : (d : Day) → Exactly (r ≡ Some d) (Dated bs d) }
-date_laws bs r e = record {
-  is = e;
-  exactly = λ d. (λ s. read_back bs d (sym e ∙ s), λ s. e ∙ ap date_of s.1 ∙ written d s.0);
-}
+pub date_exactly : (bs : List ℕ) (r : Option Day) → r ≡ date_of bs → (d : Day) → Exactly (r ≡ Some d) (Dated bs d)
+date_exactly bs r e d = (λ s. read_back bs d (sym e ∙ s), λ s. e ∙ ap date_of s.1 ∙ written d s.0)

@@ -1,5 +1,6 @@
 -- A numeral is read as n exactly if it is what is written of n.
-use Rattle.std.proofs.Common.{◌≡◌, ℕ, ◌^◌, ◌<◌, ◌≤◌, Bool, true, false, List, length, get_or, Some, decimal, Option, sym, refl, ap, ◌∙◌, subst, arith, rules}
+use Rattle.std.proofs.Common.{◌≡◌, ℕ, ◌+◌, ◌*◌, pow-suc, add-one, ◌^◌, ◌<◌, ◌≤◌, Bool, true, false, List, length, get_or, Some, decimal, Option, sym, refl, ap, ◌∙◌, subst, arith, rules}
+use native.Mathlib.Nat.{pow-le-pow_right}
 use Rattle.std.specs.Str.{all_ascii_digits}
 use Rattle.std.proofs.lemmas.Str.Parse.{IsNumeralModel, numerals_by_fold, digits_value_short}
 use Rattle.std.proofs.lemmas.Fmt.{digits_decimal, digits_value-decimal, length-decimal-le, decimal_nonempty, first_decimal, decimal-digits_value, decimal_digit}
@@ -13,7 +14,7 @@ own = numerals_by_fold _ (search rules) read_on (search rules)
 -- what a test and a value under it come from
 pub when_some : {A : Type 0} (b : Bool) (o : Option A) (x : A) → when b o ≡ Some x → (b ≡ true) × (o ≡ Some x)
 when_some true o x e = (refl, e)
-when_some false o x e = absurd (let z : ◌≡◌ {A = ℕ} 0 1 = cc in omega arith)
+when_some false o x e = absurd (cc)
 
 pub digits_some : (bs : List ℕ) (n : ℕ) → digits_of bs ≡ Some n → (all_ascii_digits bs ≡ true) × (read_on 0 bs ≡ n)
 digits_some bs n e = let p = when_some (all_ascii_digits bs) (Some (read_on 0 bs)) n e in (p.0, let s = p.1 in cc)
@@ -40,9 +41,9 @@ written n h =
     let more : 0 < n → 48 < get_or (decimal n) 0 0 = λ z. first_decimal n z fits in
     grind (arith, nat_tests)
 
-pub number_laws : (bs : List ℕ) (r : Option ℕ) → r ≡ number_of bs
-    → record { is : r ≡ number_of bs; exactly : (n : ℕ) → Exactly (r ≡ Some n) (Numeral bs n) }
-number_laws bs r e = record {
-  is = e;
-  exactly = λ n. (λ s. read_back bs n (sym e ∙ s), λ s. e ∙ ap number_of s.0 ∙ written n s.1);
-}
+-- ten times as much with one digit more
+pub tenfold : (v i : ℕ) → v < 10 ^ i → i < 12 → (v * 10 + 9 < 10 ^ (i + 1)) × (10 ^ (i + 1) ≤ 10 ^ 12)
+tenfold v i small few = (rw (add-one, pow-suc) (omega arith), pow-le-pow_right {n = 10} (omega arith) {i = i + 1} {j = 12} (omega arith))
+
+pub number_exactly : (bs : List ℕ) (r : Option ℕ) → r ≡ number_of bs → (n : ℕ) → Exactly (r ≡ Some n) (Numeral bs n)
+number_exactly bs r e n = (λ s. read_back bs n (sym e ∙ s), λ s. e ∙ ap number_of s.0 ∙ written n s.1)

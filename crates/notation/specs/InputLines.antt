@@ -17,6 +17,12 @@ pub data Part : Type 0 where
   entry : ℕ → List ℕ → Part
   too_long : ℕ → Part
 
+-- the number of a line
+abbrev pub number_of_part : Part → ℕ
+number_of_part (remark n text) = n
+number_of_part (entry n text) = n
+number_of_part (too_long n) = n
+
 -- a remark is empty or begins with a number sign (35)
 abbrev pub is_remark : List ℕ → Bool
 is_remark [] = true

@@ -5,7 +5,7 @@ ghost use Rattle.notation.specs.Entries.{field_at, number_at, date_at, bond_at, 
 
 use crate::date_text::date_of;
 use crate::numeral::number_of;
-use crate::scan::len_before;
+use crate::scan::split_before;
 use bonds::Bond;
 use dates::Day;
 use sheet::Call;
@@ -21,14 +21,13 @@ impl<'a> Fields<'a> {
     fn field(&mut self) -> Option<&'a [u8]>
         ensures { Took (field_at self.old.rest.now) (option_map (λ x. x.now) result) self.new.rest.now }
     {
-        let Some((b' ', bytes)) = self.rest.split_first() else {
-            return None;
-        };
-        let (text, rest) = bytes.split_at(len_before(bytes, b' '));
+        let bytes = self.rest.strip_prefix(b" ")?;
+        let (text, rest) = split_before(bytes, b' ');
         self.rest = rest;
         Some(text)
     }
 
+    // Two readers of two lines each: one for both would take the reader as a closure, and clauses on that.
     /// The next field as a number.
     fn number(&mut self) -> Option<u64>
         ensures { Took (number_at self.old.rest.now) result self.new.rest.now }
@@ -78,8 +77,9 @@ impl<'a> Fields<'a> {
     fn entry(&mut self, letter: char) -> Option<Call>
         ensures { result ≡ entry_by letter self.old.rest.now }
     {
+        // A match on the letters that begin an entry: each decides the form of what follows.
         match letter {
-            'B' => Some(Call::Enter(self.bond()?)),
+            'B' => self.bond().map(Call::Enter),
             _ => None,
         }
     }
@@ -89,9 +89,7 @@ impl<'a> Fields<'a> {
 pub fn entry_of(line: &[u8]) -> Option<Call>
     ensures { result ≡ entry_of line.now }
 {
-    let Some((letter, rest)) = line.split_first() else {
-        return None;
-    };
+    let (letter, rest) = line.split_first()?;
     let mut fields = Fields { rest };
-    fields.entry(*letter as char)
+    fields.entry(char::from(*letter))
 }

@@ -1,6 +1,6 @@
 ghost use Rattle.std.specs.Prelude.{◌≡◌};
 ghost use Rattle.faults.specs.Refusals.{told, text_refusal};
-ghost use Rattle.notation.specs.InputLines.{part};
+ghost use Rattle.notation.specs.InputLines.{part, number_of_part};
 ghost use Rattle.notation.specs.Handed.{seen};
 ghost use Rattle.notation.specs.Entries.{line_answer};
 
@@ -11,6 +11,7 @@ use sheet::Call;
 /// The most bytes that a line may have before its line feed.
 pub const LONGEST_LINE: usize = 100;
 
+// An enum whose cases borrow parts of the input: a line too long hands out no bytes.
 /// A line with its number, from 1, and its bytes as a part of the input.
 #[derive(Clone, Copy, Debug)]
 pub enum Line<'a> {
@@ -36,16 +37,25 @@ pub(crate) fn line_of<'a>(number: usize, text: &'a [u8]) -> Line<'a>
 }
 
 impl<'a> Line<'a> {
+    /// The line's number, from 1.
+    pub fn number(&self) -> usize
+        ensures { result ≡ number_of_part (seen self.now) }
+    {
+        match self {
+            Line::Remark { number, .. } | Line::Entry { number, .. } | Line::TooLong { number } =>
+                *number,
+        }
+    }
+
     /// What the line asks for: nothing if it is a remark; refused if it is too long or has not the form of an entry.
     pub fn read(self) -> Result<Option<Call>, TextFault>
         ensures { told text_refusal result ≡ line_answer (seen self.entry) }
     {
         match self {
             Line::Remark { .. } => Ok(None),
-            Line::Entry { number, text } => match entry_of(text) {
-                Some(call) => Ok(Some(call)),
-                None => Err(TextFault::BadLine(number)),
-            },
+            Line::Entry { number, text } => entry_of(text)
+                .map(Some)
+                .ok_or(TextFault::BadLine(number)),
             Line::TooLong { number } => Err(TextFault::BadLine(number)),
         }
     }

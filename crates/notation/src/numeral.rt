@@ -16,7 +16,7 @@ pub(crate) fn digits_of(text: &[u8]) -> Option<u64>
         if !byte.is_ascii_digit() {
             return None;
         }
-        value = value * 10 + (*byte - b'0') as u64;
+        value = value * 10 + u64::from(*byte - b'0');
     }
     Some(value)
 }
@@ -37,8 +37,9 @@ pub fn number_of(text: &[u8]) -> Option<u64>
     ensures is { result ≡ number_of text.now }
     ensures exactly { (n : ℕ) → Exactly (result ≡ Some n) (Numeral text.now n) }
 {
-    if !is_plain(text) {
-        return None;
+    if is_plain(text) {
+        digits_of(text)
+    } else {
+        None
     }
-    digits_of(text)
 }

@@ -1,15 +1,11 @@
-ghost use Rattle.std.specs.Prelude.{◌≡◌, ◌≤◌, length};
+ghost use Rattle.std.specs.Prelude.{◌≡◌, take, drop};
 ghost use Rattle.notation.specs.Readers.{before};
 
-/// How many bytes stand before the first that is `stop`, or all where none is.
-pub(crate) fn len_before(bytes: &[u8], stop: u8) -> usize
-    ensures is { result ≡ before stop bytes.now }
-    ensures bound { result ≤ length bytes.now }
+/// The bytes before the first that is `stop`, or all where none is, and what is left.
+pub(crate) fn split_before<'a>(bytes: &'a [u8], stop: u8) -> (&'a [u8], &'a [u8])
+    ensures front { result.0.now ≡ take (before stop bytes.now) bytes.now }
+    ensures back { result.1.now ≡ drop (before stop bytes.now) bytes.now }
 {
-    for (i, byte) in bytes.iter().enumerate() {
-        if *byte == stop {
-            return i;
-        }
-    }
-    bytes.len()
+    let at = bytes.iter().position(|byte| *byte == stop);
+    bytes.split_at(at.unwrap_or(bytes.len()))
 }

@@ -2,8 +2,6 @@
 
 #![tactic(auto)]
 
-mod no_memory;
 mod session;
 
-pub use no_memory::NoMemory;
-pub use session::report;
+pub use session::{LONGEST_INPUT, report};

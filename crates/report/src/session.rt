@@ -1,80 +1,64 @@
-use crate::no_memory::NoMemory;
 use calendars::{Target, target_calendar};
 use conventions::{Convention, ModifiedFollowing};
 use faults::{Fault, TextFault};
 use notation::{Line, Lines};
-use sheet::{Answer, Call, Sheet};
+use sheet::{Answer, Sheet};
 use std::alloc::{AllocError, Global};
 
-/// The sheet of the program.
-type ProgramSheet = Sheet<Target, ModifiedFollowing>;
-
 /// The most bytes that an input may have.
-const LONGEST_INPUT: usize = 65_536;
+pub const LONGEST_INPUT: usize = 65_536;
 
-/// The program's calendar; the rules that it is made of take all their entries.
-fn calendar() -> Target {
-    match target_calendar() {
-        Ok(target) => target,
-        Err(_) => unreachable(),
+/// The program's sheet, and the text that is printed.
+#[derive(Drop)]
+struct Session {
+    sheet: Sheet<Target, ModifiedFollowing>,
+    out: String,
+}
+
+impl Session {
+    /// A session without bonds, whose text is empty; the rules of the program's calendar take all their entries.
+    fn new(heap: Global) -> Session {
+        Session {
+            sheet: Sheet::new(target_calendar().unwrap(), ModifiedFollowing),
+            out: String::new(heap),
+        }
     }
-}
 
-/// The number of a line, as a refusal prints it.
-fn line_number(line: &Line<'_>) -> usize {
-    match line {
-        Line::Remark { number, .. } | Line::Entry { number, .. } | Line::TooLong { number } =>
-            *number,
+    /// Does what a line asks for; a remark asks for nothing.
+    fn answer(&mut self, line: Line<'_>) -> Result<Option<Answer>, Fault> {
+        match line.read()? {
+            Some(call) => self.sheet.call(call).map(Some),
+            None => Ok(None),
+        }
     }
-}
 
-fn refuse(out: &mut String, fault: Fault, line: usize) -> Result<(), AllocError> {
-    let number = fault.number();
-    writeln!(out, "no {number} {line}")
-}
-
-/// Writes what a call answered.
-fn answered(out: &mut String, answer: Answer) -> Result<(), AllocError> {
-    match answer {
-        Answer::Entered(number, rolls) => writeln!(out, "entered {number} {rolls}"),
+    /// Prints a refusal.
+    fn refuse(&mut self, fault: Fault, line: usize) -> Result<(), AllocError> {
+        let number = fault.number();
+        writeln!(self.out, "no {number} {line}")
     }
-}
 
-/// Makes a call, and writes what happened.
-fn run_call(
-    out: &mut String,
-    sheet: &mut ProgramSheet,
-    call: Call,
-    line: usize,
-) -> Result<(), AllocError> {
-    match sheet.call(call) {
-        Ok(answer) => answered(out, answer),
-        Err(fault) => refuse(out, fault, line),
-    }
-}
-
-/// Reads a line and does what it asks for; a remark asks for nothing.
-fn run_line(out: &mut String, sheet: &mut ProgramSheet, line: Line<'_>) -> Result<(), AllocError> {
-    let number = line_number(&line);
-    match line.read() {
-        Ok(Some(call)) => run_call(out, sheet, call, number),
-        Ok(None) => Ok(()),
-        Err(fault) => refuse(out, Fault::Text(fault), number),
+    /// Does what a line asks for, and prints what became of it.
+    fn run(&mut self, line: Line<'_>) -> Result<(), AllocError> {
+        match self.answer(line) {
+            Ok(Some(answer)) => writeln!(self.out, "{answer}"),
+            Ok(None) => Ok(()),
+            Err(fault) => self.refuse(fault, line.number()),
+        }
     }
 }
 
 /// The text that is printed for an input.
-pub fn report(heap: Global, input: &[u8]) -> Result<String, NoMemory> {
-    let mut out = String::new(heap);
+pub fn report(heap: Global, input: &[u8]) -> Result<String, AllocError> {
+    let mut session = Session::new(heap);
     let letter = ModifiedFollowing::LETTER;
-    writeln!(out, "convention {letter}")?;
+    writeln!(session.out, "convention {letter}")?;
     if input.len() > LONGEST_INPUT {
-        refuse(&mut out, Fault::Text(TextFault::TooLong), 0)?;
-        return Ok(out);
+        session.refuse(TextFault::TooLong.into(), 0)?;
+        return Ok(session.out);
     }
-    let mut sheet = Sheet::new(calendar(), ModifiedFollowing);
     for line in Lines::of(input) {
-        run_line(&mut out, &mut sheet, line)?;
+        session.run(line)?;
     }
-    Ok(out)
+    Ok(session.out)
 }

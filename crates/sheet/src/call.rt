@@ -1,4 +1,8 @@
+ghost use Rattle.std.specs.Prelude.{Some};
+ghost use Rattle.sheet.specs.AnswerTexts.{answer_text};
+
 use bonds::Bond;
+use std::fmt;
 
 /// What can be asked of a sheet.
 #[derive(Clone, Copy)]
@@ -12,4 +16,14 @@ pub enum Call {
 pub enum Answer {
     /// The bond of this number is live, with so many rolls.
     Entered(u64, u32),
+}
+
+impl fmt::Display for Answer {
+    ghost output = { λ a. Some (answer_text a) };
+
+    fn fmt<W: fmt::Write>(&self, f: &mut fmt::Formatter<W>) -> fmt::Result {
+        match self {
+            Answer::Entered(number, rolls) => write!(f, "entered {number} {rolls}"),
+        }
+    }
 }

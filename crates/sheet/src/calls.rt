@@ -1,10 +1,10 @@
 use crate::call::{Answer, Call};
 use crate::sheet::{MOST_BONDS, MOST_ROLLS, Sheet};
-use bonds::{Bond, Rolls};
+use bonds::Bond;
 use calendars::Calendar;
 use conventions::Convention;
 use faults::{Fault, SheetFault};
-use generation::bond_roll;
+use generation::Schedule;
 
 impl<K: Calendar, C: Convention> Sheet<K, C> {
     /// A sheet without bonds.
@@ -12,7 +12,7 @@ impl<K: Calendar, C: Convention> Sheet<K, C> {
         Sheet {
             calendar,
             convention,
-            numbers: [0; 32],
+            numbers: [0; MOST_BONDS],
             count: 0,
             rolls: 0,
         }
@@ -20,36 +20,22 @@ impl<K: Calendar, C: Convention> Sheet<K, C> {
 
     /// Whether a bond of this number is live.
     fn is_live(&self, number: u64) -> bool {
-        for i in 0..self.count {
-            if self.numbers[i] == number {
-                return true;
-            }
-        }
-        false
-    }
-
-    /// Generates every roll of a bond; the first that fails is named.
-    fn try_rolls(&self, rolls: &Rolls) -> Result<(), Fault> {
-        for i in 0..rolls.count() {
-            if let Some(roll) = bond_roll(&self.calendar, &self.convention, rolls, i) {
-                let _ = roll?;
-            }
-        }
-        Ok(())
+        self.numbers[..self.count].contains(&number)
     }
 
     /// Enters a bond and answers how many rolls it has; a refusal leaves the sheet as it was.
     pub fn enter(&mut self, bond: Bond) -> Result<u32, Fault> {
         let terms = bond.terms()?;
         if self.is_live(bond.number) {
-            return Err(Fault::Sheet(SheetFault::Live(bond.number)));
+            return Err(SheetFault::Live(bond.number).into());
         }
         let rolls = terms.rolls()?;
         let count = rolls.count();
         if self.count >= MOST_BONDS || count > MOST_ROLLS - self.rolls {
-            return Err(Fault::Sheet(SheetFault::SheetFull(bond.number)));
+            return Err(SheetFault::SheetFull(bond.number).into());
         }
-        self.try_rolls(&rolls)?;
+        // Each roll has to come out on this calendar, and the first that does not is named.
+        let _ = Schedule::generate(&self.calendar, &self.convention, rolls)?;
         self.numbers[self.count] = bond.number;
         self.count += 1;
         self.rolls += count;

@@ -1,4 +1,5 @@
 ghost use Rattle.std.specs.Prelude.{◌≤◌, length, ◌≡◌};
+ghost use Rattle.sheet.specs.declared.sheet.TheConstants.{MOST_BONDS, MOST_ROLLS};
 
 /// The most bonds that are live at once.
 pub(crate) const MOST_BONDS: usize = 32;
@@ -11,9 +12,10 @@ pub(crate) const MOST_ROLLS: u32 = 400;
 pub struct Sheet<K, C> {
     pub(crate) calendar: K,
     pub(crate) convention: C,
-    pub(crate) numbers: [u64; 32],
+    // A fixed array with a count, and no heap: no call fails for want of memory.
+    pub(crate) numbers: [u64; MOST_BONDS],
     pub(crate) count: usize,
     pub(crate) rolls: u32,
-    ghost within: { (count ≤ 32) × (length numbers ≡ 32) },
-    ghost few: { rolls ≤ 400 },
+    ghost within: { (count ≤ MOST_BONDS) × (length numbers ≡ MOST_BONDS) },
+    ghost few: { rolls ≤ MOST_ROLLS },
 }

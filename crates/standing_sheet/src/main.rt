@@ -2,37 +2,17 @@
 
 #![tactic(auto)]
 
-use report::{NoMemory, report};
+use report::{LONGEST_INPUT, report};
 use std::io;
 use std::io::Read;
 
 /// One byte more than an input may have, so that a longer one shows.
-const READ_AT_MOST: u64 = 65_537;
+const READ_AT_MOST: u64 = LONGEST_INPUT as u64 + 1;
 
-/// Why the program ends without its report.
-#[derive(Debug, Drop)]
-enum Stop {
-    NoMemory,
-    Io(io::Error),
-}
-
-impl From<NoMemory> for Stop {
-    fn from(_error: NoMemory) -> Stop {
-        Stop::NoMemory
-    }
-}
-
-impl From<io::Error> for Stop {
-    fn from(error: io::Error) -> Stop {
-        Stop::Io(error)
-    }
-}
-
-fn main(rt: HostRuntime) -> Result<(), Stop> {
+fn main(rt: HostRuntime) -> io::Result<()> {
     let heap = rt.alloc();
     let mut input = Vec::new(heap);
     rt.stdin().take(READ_AT_MOST).read_to_end(&mut input)?;
     let text = report(heap, input.as_slice())?;
-    print!(rt; "{text}")?;
-    Ok(())
+    print!(rt; "{text}")
 }

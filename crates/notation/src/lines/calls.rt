@@ -6,18 +6,7 @@ ghost use Rattle.std.specs.Iterator.{at_most};
 
 use super::Lines;
 use crate::line::{Line, line_of};
-use crate::scan::len_before;
-
-/// What follows the first byte.
-fn past_first<'a>(bytes: &'a [u8]) -> &'a [u8]
-    ensures is { result.now ≡ drop 1 bytes.now }
-    ensures len { length result.now ≡ length bytes.now - 1 }
-{
-    match bytes.split_first() {
-        Some((_, rest)) => rest,
-        None => bytes,
-    }
-}
+use crate::scan::split_before;
 
 /// The first line, if there is one, and what follows its line feed.
 fn first_line<'a>(bytes: &'a [u8]) -> Option<(&'a [u8], &'a [u8])>
@@ -27,8 +16,9 @@ fn first_line<'a>(bytes: &'a [u8]) -> Option<(&'a [u8], &'a [u8])>
     if bytes.is_empty() {
         return None;
     }
-    let (text, tail) = bytes.split_at(len_before(bytes, b'\n'));
-    Some((text, past_first(tail)))
+    let (text, tail) = split_before(bytes, b'\n');
+    let rest = tail.split_first().map_or(tail, |(_, rest)| rest);
+    Some((text, rest))
 }
 
 impl<'a> Lines<'a> {

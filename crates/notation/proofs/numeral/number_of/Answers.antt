@@ -1,9 +1,9 @@
 use Rattle.std.proofs.Common.{rules}
-use Rattle.notation.proofs.Spelling.{number_laws}
+use Rattle.notation.proofs.Spelling.{number_exactly}
 use Rattle.notation.proofs.numeral.number_of.Goals as goal
 
-pub returns-then-not-is_plain : goal.returns-then-not-is_plain
-returns-then-not-is_plain c = number_laws c.args.text.now _ (search rules)
+pub returns-then-is_plain-clause-exactly : goal.returns-then-is_plain-clause-exactly
+returns-then-is_plain-clause-exactly c = number_exactly c.args.text.now _ (search rules)
 
-pub returns : goal.returns
-returns c = number_laws c.args.text.now _ (search rules)
+pub returns-else-is_plain-clause-exactly : goal.returns-else-is_plain-clause-exactly
+returns-else-is_plain-clause-exactly c = number_exactly c.args.text.now _ (search rules)
