@@ -10,7 +10,7 @@ pub enum Call {
 }
 
 /// What a granted call answers.
-#[derive(Clone, Copy)]
+#[derive(Clone, Copy, PartialEq, Eq, Debug)]
 pub enum Answer {
     /// The bond of this number is live, with so many rolls.
     Entered(u64, u32),

@@ -3,6 +3,8 @@
 #![tactic(auto)]
 
 #[cfg(test)]
+mod bench;
+#[cfg(test)]
 mod reading_examples;
 #[cfg(test)]
 mod refusal_examples;
@@ -10,5 +12,3 @@ mod refusal_examples;
 mod room_examples;
 #[cfg(test)]
 mod sheets;
-#[cfg(test)]
-mod steps;

@@ -1,52 +1,42 @@
-use crate::steps::{Step, run};
 use amendments::AmendmentLayer;
-use calendars::{Calendar, Listed, Weekly, target_calendar};
+use calendars::{Listed, Target, Weekly, target_calendar};
 use conventions::{Following, ModifiedFollowing};
 use dates::Day;
 use day_cache::DayCache;
-use std::process::Abort;
-use std::test::Fail;
+use faults::CalendarFault;
+use kept_sheet::Sheet;
 
-fn run_cached<K: Calendar + Drop>(
-    rt: &impl Abort,
-    calendar: K,
-    steps: &[Step],
-) -> Result<(), Fail> {
-    let layer = AmendmentLayer::new(calendar, 9);
-    run(
-        rt,
+/// A sheet as the program has it.
+pub(crate) type ProgramSheet = Sheet<DayCache<AmendmentLayer<Target>>, ModifiedFollowing>;
+
+pub(crate) fn program_sheet() -> Result<ProgramSheet, CalendarFault> {
+    let layer = AmendmentLayer::new(target_calendar()?, 9);
+    Ok(Sheet::new(
         DayCache::new(layer, Day(44_925)),
         ModifiedFollowing,
-        steps,
-    )
+    ))
 }
 
-/// Takes the steps on a sheet as the program has it.
-pub(crate) fn on_program(rt: &impl Abort, steps: &[Step]) -> Result<(), Fail> {
-    run_cached(rt, target_calendar()?, steps)
-}
-
-/// Takes the steps on a sheet over a calendar that has no good day.
-pub(crate) fn on_closed_weeks(rt: &impl Abort, steps: &[Step]) -> Result<(), Fail> {
+/// A sheet over a calendar that has no good day.
+pub(crate) fn closed_weeks_sheet() -> Sheet<AmendmentLayer<Weekly>, Following> {
     let layer = AmendmentLayer::new(Weekly::new([true; 7], 1), 9);
-    run(rt, layer, Following, steps)
+    Sheet::new(layer, Following)
 }
 
 /// From 17 December 1999 to 12 February 2000.
-fn winter() -> [Day; 58] {
+pub(crate) fn winter() -> [Day; 58] {
     let mut days = [Day(0); 58];
-    let mut day = 36_509u32;
-    for place in &mut days {
+    for (place, day) in days.iter_mut().zip(36_509..) {
         *place = Day(day);
-        day = day.saturating_add(1);
     }
     days
 }
 
-/// Takes the steps on a sheet over a calendar on which all is good but these days.
-pub(crate) fn on_closed_winter(rt: &impl Abort, steps: &[Step]) -> Result<(), Fail> {
-    let days = winter();
+/// A sheet over a calendar on which all is good but these days.
+pub(crate) fn closed_winter_sheet<'a>(
+    days: &'a [Day],
+) -> Result<Sheet<AmendmentLayer<Listed<'a>>, Following>, CalendarFault> {
     let mut listed = Listed::new(4);
-    listed.replace(&days)?;
-    run(rt, AmendmentLayer::new(listed, 9), Following, steps)
+    listed.replace(days)?;
+    Ok(Sheet::new(AmendmentLayer::new(listed, 9), Following))
 }
