@@ -23,22 +23,21 @@ pub fn generate<K: Calendar, C: Convention>(
 ) -> Result<Roll, GenerationFault>
     ensures { result_map_both seen_roll generation_refusal result ≡ roll_answer (λ d. good (K.Calendar.codes adjuster.now.calendar.now d)) (C.Convention.tries adjuster.now.convention.now) at.day lag (at.bond ∷ at.roll ∷ at.day ∷ []) }
 {
-    let Some(adjusted) = adjuster.first_good(Unadjusted(at.day))? else {
-        return Err(GenerationFault::NoGoodDay(at));
-    };
+    let adjusted = adjuster
+        .first_good(Unadjusted(at.day))?
+        .ok_or(GenerationFault::NoGoodDay(at))?;
     if lag == 0 {
         return Ok(Roll {
             adjusted,
             fixing: None,
         });
     }
-    match fixing_before(adjuster.calendar, adjusted, lag) {
-        Some(fixing) => Ok(Roll {
-            adjusted,
-            fixing: Some(fixing),
-        }),
-        None => Err(GenerationFault::NoFixing(at)),
-    }
+    let found = fixing_before(adjuster.calendar, adjusted, lag);
+    let fixing = found.ok_or(GenerationFault::NoFixing(at))?;
+    Ok(Roll {
+        adjusted,
+        fixing: Some(fixing),
+    })
 }
 
 /// Roll i of a bond, if it has one.

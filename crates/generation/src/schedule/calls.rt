@@ -52,7 +52,7 @@ impl Schedule {
     pub fn payment(&self, k: u64) -> Option<Payment>
         ensures { option_mapped seen_payment result ≡ payment_at (seen_schedule self.now) k }
     {
-        if k < 1 || k >= self.count() as u64 {
+        if k < 1 || k >= u64::from(self.count()) {
             return None;
         }
         let at = k as usize;

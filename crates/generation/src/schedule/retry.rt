@@ -27,12 +27,7 @@ impl Footing {
     pub fn holds_one(&self, days: &[Day]) -> bool
         ensures { result ≡ holds_one (seen_footing self.now) (map number_of days.now) }
     {
-        for day in days {
-            if self.holds(*day) {
-                return true;
-            }
-        }
-        false
+        days.iter().any(|day| self.holds(*day))
     }
 }
 
@@ -45,10 +40,9 @@ impl Schedule {
         let Some(u) = self.rolls.day(i) else {
             return false;
         };
-        match footing_of(convention, u, self.days[i as usize]) {
-            Ok(footing) => footing.holds_one(days),
-            Err(_) => false,
-        }
+        footing_of(convention, u, self.days[i as usize]).is_ok_and(|footing| footing.holds_one(
+            days,
+        ))
     }
 
     /// How many rolls stand on one of the days.
