@@ -1,6 +1,7 @@
 -- A roll that does not stand on a changed day stays as it is, so trying the others anew is enough.
 use Rattle.std.proofs.Common.{◌≡◌, ℕ, zero, suc, ◌+◌, ◌-◌, ◌<◌, ◌≤◌, Bool, true, false, cond, ◌||◌, List, [], ◌∷◌, map, length, get_or, Ok, Result, sym, refl, ap, ◌∙◌, zero-add, arith}
 use Rattle.std.proofs.lemmas.Bool.Decides.{nat_tests}
+use Rattle.std.specs.List.{list_any}
 use Rattle.faults.specs.Refusals.{Refusal, refuse}
 use Rattle.calendars.specs.Rules.{any}
 use Rattle.conventions.specs.Tries.{served}
@@ -16,7 +17,7 @@ use Rattle.generation.proofs.FirstFault.{its_rolls}
 use Rattle.generation.proofs.Standing.{footing_holds}
 
 -- a test of each member of a list that was mapped
-pub any_map : {A B : Type 0} (f : A → B) (test : B → Bool) (xs : List A) → any (λ x. test (f x)) xs ≡ any test (map f xs)
+pub any_map : {A B : Type 0} (f : A → B) (test : B → Bool) (xs : List A) → list_any (λ x. test (f x)) xs ≡ any test (map f xs)
 any_map f test [] = refl
 any_map f test (x ∷ xs) = ap (λ (b : Bool). test (f x) || b) (any_map f test xs)
 

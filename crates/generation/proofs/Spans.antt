@@ -4,20 +4,26 @@ use Rattle.std.proofs.lemmas.Bool.{eq-eqb, ne_eqb}
 use Rattle.std.proofs.lemmas.List.{drop_more, drop_all}
 use Rattle.generation.specs.Rolls.{Span, up_to, lowest, highest, span}
 
-module _ (low high at : ℕ) (ds : List ℕ) (k : ℕ) where
+-- the days of a run from place k on, around a span
+abbrev pub from_place : Span → ℕ → List ℕ → ℕ → Span
+from_place s at ds k = span s.low s.high (up_to at (drop k ds))
+
+-- a span with a day in it
+abbrev pub around : Span → ℕ → Span
+around s d = record { low = min s.low d; high = max s.high d }
+
+module _ (s t : Span) (at : ℕ) (ds : List ℕ) (k : ℕ) where
   -- the day d at k is the one to stop at
-  pub at_end : (d l m : ℕ) → k < length ds → d ≡ get_or ds k 0 → d ≡ at → l ≡ min low d → m ≡ max high d
-      → ◌≡◌ {A = Span} (record { low = l; high = m }) (span low high (up_to at (drop k ds)))
+  pub at_end : (d : ℕ) → k < length ds → d ≡ get_or ds k 0 → d ≡ at → t ≡ around s d → t ≡ from_place s at ds k
   unfolding up_to lowest highest
-  at_end d l m h e n p q = rw (p, q, e) (let f = eq-eqb (get_or ds k 0) at (sym e ∙ n) in rw (drop_more ds k 0 h, f))
+  at_end d h e n p = rw (p, e) (let f = eq-eqb (get_or ds k 0) at (sym e ∙ n) in rw (drop_more ds k 0 h, f))
 
   -- it is not
-  pub at_next : (d l m : ℕ) → k < length ds → d ≡ get_or ds k 0 → (d ≡ at → ⊥) → l ≡ min low d → m ≡ max high d
-      → ◌≡◌ {A = Span} (span l m (up_to at (drop (k + 1) ds))) (span low high (up_to at (drop k ds)))
+  pub at_next : (d : ℕ) → k < length ds → d ≡ get_or ds k 0 → (d ≡ at → ⊥) → t ≡ around s d → from_place t at ds (k + 1) ≡ from_place s at ds k
   unfolding up_to lowest highest
-  at_next d l m h e n p q = rw (p, q, e) (let f = ne_eqb (get_or ds k 0) at (λ s. n (e ∙ s)) in rw (drop_more ds k 0 h, f))
+  at_next d h e n p = rw (p, e) (let f = ne_eqb (get_or ds k 0) at (λ z. n (e ∙ z)) in rw (drop_more ds k 0 h, f))
 
-  -- there is none left
-  pub run_out : length ds ≤ k → ◌≡◌ {A = Span} (record { low = low; high = high }) (span low high (up_to at (drop k ds)))
-  unfolding up_to lowest highest
-  run_out h = rw (drop_all k ds h)
+-- there is none left
+pub run_out : (s : Span) (at : ℕ) (ds : List ℕ) (k : ℕ) → length ds ≤ k → s ≡ from_place s at ds k
+unfolding up_to lowest highest
+run_out s at ds k h = rw (drop_all k ds h)

@@ -15,18 +15,10 @@ const WINDOW: u32 = 60;
 pub fn fixing_before<K: Calendar>(calendar: &K, adjusted: Adjusted, lag: u32) -> Option<Day>
     ensures { option_map (λ (d : Day). d.0) result ≡ fixing (λ d. good (K.Calendar.codes calendar.now d)) adjusted.number lag }
 {
-    let mut day = adjusted.day().0;
-    let mut left = lag;
-    let mut window = WINDOW;
-    while window > 0 {
-        day = day.saturating_sub(1);
-        if is_good_day(calendar, Day(day)) {
-            if left == 1 {
-                return Some(Day(day));
-            }
-            left = left.saturating_sub(1);
-        }
-        window -= 1;
-    }
-    None
+    let day = adjusted.day().0;
+    let passed = lag.checked_sub(1)?;
+    (1..=WINDOW)
+        .map(|back| Day(day.saturating_sub(back)))
+        .filter(|earlier| is_good_day(calendar, *earlier))
+        .nth(passed as usize)
 }

@@ -1,9 +1,10 @@
-ghost use Rattle.std.specs.Prelude.{◌≡◌, ◌<◌, ◌≤◌};
+ghost use Rattle.std.specs.Prelude.{◌≡◌, ◌<◌, ◌≤◌, min, max};
+ghost use Rattle.std.specs.Option.{option_map};
 ghost use Rattle.std.specs.Result.{result_map_both};
 ghost use Rattle.faults.specs.Refusals.{told, generation_refusal};
-ghost use Rattle.generation.specs.Rolls.{footing_answer, span_answer};
+ghost use Rattle.generation.specs.Rolls.{stretched, footing_answer, span_answer};
 ghost use Rattle.generation.specs.Laws.{FootingHolds, RunWasTried};
-ghost use Rattle.generation.specs.Views.{seen_roll, seen_footing};
+ghost use Rattle.generation.specs.Views.{number_of, seen_roll, seen_footing};
 
 use crate::roll::Roll;
 use conventions::{Convention, Unadjusted};
@@ -17,32 +18,48 @@ pub struct Footing {
     pub high: Day,
 }
 
+impl Footing {
+    /// It with a day in it.
+    fn around(self, day: Day) -> Footing
+        ensures { seen_footing result ≡ record { low = min self.low.0 day.0; high = max self.high.0 day.0 } }
+    {
+        Footing {
+            low: Day(self.low.0.min(day.0)),
+            high: Day(self.high.0.max(day.0)),
+        }
+    }
+
+    /// It stretched back to a fixing, if there is one.
+    fn back_to(self, fixing: Option<Day>) -> Footing
+        ensures { seen_footing result ≡ record { low = stretched self.low.0 (option_map number_of fixing); high = self.high.0 } }
+    {
+        let low = fixing.map_or(self.low, |day| Day(self.low.0.min(day.0)));
+        Footing { low, ..self }
+    }
+}
+
 /// The lowest and the highest of the days tried for `u`, up to the day `at`.
 fn span_to<C: Convention>(
     convention: &C,
     u: Unadjusted,
-    at: u32,
+    at: Day,
 ) -> Result<Footing, GenerationFault>
-    ensures { result_map_both seen_footing generation_refusal result ≡ span_answer (C.Convention.tries convention.now) u.0 at }
+    ensures { result_map_both seen_footing generation_refusal result ≡ span_answer (C.Convention.tries convention.now) u.0 at.0 }
 {
     let count = convention.count(u)?;
-    let mut low = u.0;
-    let mut high = u.0;
+    let mut span = Footing {
+        low: Day(u.0),
+        high: Day(u.0),
+    };
+    // An index loop: the index is the question that is asked of a convention.
     for k in 0..count {
         let day = convention.nth(u, k)?;
-        low = low.min(day.0);
-        high = high.max(day.0);
-        if day.0 == at {
-            return Ok(Footing {
-                low: Day(low),
-                high: Day(high),
-            });
+        span = span.around(day);
+        if day == at {
+            return Ok(span);
         }
     }
-    Ok(Footing {
-        low: Day(low),
-        high: Day(high),
-    })
+    Ok(span)
 }
 
 /// The footing of a kept roll: the run of days tried up to its adjusted day, stretched back to its fixing.
@@ -55,12 +72,5 @@ pub fn footing_of<C: Convention>(
     ensures holds { FootingHolds }
     ensures run { RunWasTried (C.Convention.tries convention.now) }
 {
-    let span = span_to(convention, u, roll.adjusted.day().0)?;
-    match roll.fixing {
-        Some(fixing) => Ok(Footing {
-            low: Day(span.low.0.min(fixing.0)),
-            high: span.high,
-        }),
-        None => Ok(span),
-    }
+    span_to(convention, u, roll.adjusted.day()).map(|span| span.back_to(roll.fixing))
 }

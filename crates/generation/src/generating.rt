@@ -12,45 +12,42 @@ use crate::fixing::fixing_before;
 use crate::roll::Roll;
 use bonds::Rolls;
 use calendars::Calendar;
-use conventions::{Convention, Unadjusted, first_good};
+use conventions::{Adjuster, Convention, Unadjusted};
 use faults::{GenerationFault, RollAt};
 
 /// The roll of an unadjusted day, which a refusal names with its bond; with lag 0 it has no fixing.
 pub fn generate<K: Calendar, C: Convention>(
-    calendar: &K,
-    convention: &C,
+    adjuster: &Adjuster<'_, K, C>,
     at: RollAt,
     lag: u32,
 ) -> Result<Roll, GenerationFault>
-    ensures { result_map_both seen_roll generation_refusal result ≡ roll_answer (λ d. good (K.Calendar.codes calendar.now d)) (C.Convention.tries convention.now) at.day lag (at.bond ∷ at.roll ∷ at.day ∷ []) }
+    ensures { result_map_both seen_roll generation_refusal result ≡ roll_answer (λ d. good (K.Calendar.codes adjuster.now.calendar.now d)) (C.Convention.tries adjuster.now.convention.now) at.day lag (at.bond ∷ at.roll ∷ at.day ∷ []) }
 {
-    let Some(adjusted) = first_good(calendar, convention, Unadjusted(at.day))? else {
-        return Err(GenerationFault::NoGoodDay(at));
-    };
+    let adjusted = adjuster
+        .first_good(Unadjusted(at.day))?
+        .ok_or(GenerationFault::NoGoodDay(at))?;
     if lag == 0 {
         return Ok(Roll {
             adjusted,
             fixing: None,
         });
     }
-    match fixing_before(calendar, adjusted, lag) {
-        Some(fixing) => Ok(Roll {
-            adjusted,
-            fixing: Some(fixing),
-        }),
-        None => Err(GenerationFault::NoFixing(at)),
-    }
+    let found = fixing_before(adjuster.calendar, adjusted, lag);
+    let fixing = found.ok_or(GenerationFault::NoFixing(at))?;
+    Ok(Roll {
+        adjusted,
+        fixing: Some(fixing),
+    })
 }
 
 /// Roll i of a bond, if it has one.
 pub fn bond_roll<K: Calendar, C: Convention>(
-    calendar: &K,
-    convention: &C,
+    adjuster: &Adjuster<'_, K, C>,
     rolls: &Rolls,
     i: u32,
 ) -> Option<Result<Roll, GenerationFault>>
-    ensures is { option_mapped (result_map_both seen_roll generation_refusal) result ≡ generated (λ d. good (K.Calendar.codes calendar.now d)) (C.Convention.tries convention.now) rolls.now.terms i }
-    ensures order { NeverBackward (λ d. good (K.Calendar.codes calendar.now d)) (C.Convention.tries convention.now) rolls.now.terms }
+    ensures is { option_mapped (result_map_both seen_roll generation_refusal) result ≡ generated (λ d. good (K.Calendar.codes adjuster.now.calendar.now d)) (C.Convention.tries adjuster.now.convention.now) rolls.now.terms i }
+    ensures order { NeverBackward (λ d. good (K.Calendar.codes adjuster.now.calendar.now d)) (C.Convention.tries adjuster.now.convention.now) rolls.now.terms }
 {
     let u = rolls.day(i)?;
     let at = RollAt {
@@ -58,20 +55,19 @@ pub fn bond_roll<K: Calendar, C: Convention>(
         roll: i,
         day: u.0,
     };
-    Some(generate(calendar, convention, at, rolls.lag(i)))
+    Some(generate(adjuster, at, rolls.lag(i)))
 }
 
 /// Roll i of a bond, which has one.
 pub(crate) fn roll_of_bond<K: Calendar, C: Convention>(
-    calendar: &K,
-    convention: &C,
+    adjuster: &Adjuster<'_, K, C>,
     rolls: &Rolls,
     i: u32,
 ) -> Result<Roll, GenerationFault>
     requires { i < length (unadjusted_rolls rolls.now.terms) }
-    ensures { result_map_both seen_roll generation_refusal result ≡ bond_roll (λ d. good (K.Calendar.codes calendar.now d)) (C.Convention.tries convention.now) rolls.now.terms i }
+    ensures { result_map_both seen_roll generation_refusal result ≡ bond_roll (λ d. good (K.Calendar.codes adjuster.now.calendar.now d)) (C.Convention.tries adjuster.now.convention.now) rolls.now.terms i }
 {
-    match bond_roll(calendar, convention, rolls, i) {
+    match bond_roll(adjuster, rolls, i) {
         Some(roll) => roll,
         None => unreachable(),
     }

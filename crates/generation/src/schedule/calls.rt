@@ -11,24 +11,23 @@ use crate::payment::Payment;
 use crate::schedule::Schedule;
 use bonds::Rolls;
 use calendars::Calendar;
-use conventions::Convention;
+use conventions::{Adjuster, Convention};
 use faults::GenerationFault;
 
 impl Schedule {
     /// Generates every roll of a bond; the first that fails is refused.
     pub fn generate<K: Calendar, C: Convention>(
-        calendar: &K,
-        convention: &C,
+        adjuster: &Adjuster<'_, K, C>,
         rolls: Rolls,
     ) -> Result<Schedule, GenerationFault>
-        ensures is { result_map_both seen_schedule generation_refusal result ≡ schedule_answer (λ d. good (K.Calendar.codes calendar.now d)) (C.Convention.tries convention.now) rolls.terms }
-        ensures first { FirstFault (λ d. good (K.Calendar.codes calendar.now d)) (C.Convention.tries convention.now) rolls.terms }
+        ensures is { result_map_both seen_schedule generation_refusal result ≡ schedule_answer (λ d. good (K.Calendar.codes adjuster.now.calendar.now d)) (C.Convention.tries adjuster.now.convention.now) rolls.terms }
+        ensures first { FirstFault (λ d. good (K.Calendar.codes adjuster.now.calendar.now d)) (C.Convention.tries adjuster.now.convention.now) rolls.terms }
     {
         let count = rolls.count();
-        let first = roll_of_bond(calendar, convention, &rolls, 0)?;
+        let first = roll_of_bond(adjuster, &rolls, 0)?;
         let mut days = [first; 100];
         for i in 1..count {
-            days[i as usize] = roll_of_bond(calendar, convention, &rolls, i)?;
+            days[i as usize] = roll_of_bond(adjuster, &rolls, i)?;
         }
         Ok(Schedule { rolls, days })
     }
@@ -53,7 +52,7 @@ impl Schedule {
     pub fn payment(&self, k: u64) -> Option<Payment>
         ensures { option_mapped seen_payment result ≡ payment_at (seen_schedule self.now) k }
     {
-        if k < 1 || k >= self.count() as u64 {
+        if k < 1 || k >= u64::from(self.count()) {
             return None;
         }
         let at = k as usize;

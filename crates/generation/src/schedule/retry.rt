@@ -11,7 +11,7 @@ use crate::generating::roll_of_bond;
 use crate::roll::Roll;
 use crate::schedule::Schedule;
 use calendars::Calendar;
-use conventions::Convention;
+use conventions::{Adjuster, Convention};
 use dates::Day;
 use faults::GenerationFault;
 
@@ -27,12 +27,7 @@ impl Footing {
     pub fn holds_one(&self, days: &[Day]) -> bool
         ensures { result ≡ holds_one (seen_footing self.now) (map number_of days.now) }
     {
-        for day in days {
-            if self.holds(*day) {
-                return true;
-            }
-        }
-        false
+        days.iter().any(|day| self.holds(*day))
     }
 }
 
@@ -45,10 +40,9 @@ impl Schedule {
         let Some(u) = self.rolls.day(i) else {
             return false;
         };
-        match footing_of(convention, u, self.days[i as usize]) {
-            Ok(footing) => footing.holds_one(days),
-            Err(_) => false,
-        }
+        footing_of(convention, u, self.days[i as usize]).is_ok_and(|footing| footing.holds_one(
+            days,
+        ))
     }
 
     /// How many rolls stand on one of the days.
@@ -68,16 +62,15 @@ impl Schedule {
     /// Roll i anew if it stands on one of the days, else as it is.
     fn retry_roll<K: Calendar, C: Convention>(
         &self,
-        calendar: &K,
-        convention: &C,
+        adjuster: &Adjuster<'_, K, C>,
         days: &[Day],
         i: u32,
     ) -> Result<Roll, GenerationFault>
         requires { i < self.now.rolls.inner + 2 }
-        ensures { result_map_both seen_roll generation_refusal result ≡ retried_roll (λ d. good (K.Calendar.codes calendar.now d)) (C.Convention.tries convention.now) (map number_of days.now) (seen_schedule self.now) i }
+        ensures { result_map_both seen_roll generation_refusal result ≡ retried_roll (λ d. good (K.Calendar.codes adjuster.now.calendar.now d)) (C.Convention.tries adjuster.now.convention.now) (map number_of days.now) (seen_schedule self.now) i }
     {
-        if self.counts(convention, days, i) {
-            return roll_of_bond(calendar, convention, &self.rolls, i);
+        if self.counts(adjuster.convention, days, i) {
+            return roll_of_bond(adjuster, &self.rolls, i);
         }
         Ok(self.days[i as usize])
     }
@@ -85,16 +78,15 @@ impl Schedule {
     /// The schedule on a calendar that has changed on these days: only the rolls that stand on one of them are tried anew.
     pub fn retry<K: Calendar, C: Convention>(
         &self,
-        calendar: &K,
-        convention: &C,
+        adjuster: &Adjuster<'_, K, C>,
         days: &[Day],
     ) -> Result<Schedule, GenerationFault>
-        ensures is { result_map_both seen_schedule generation_refusal result ≡ retried (λ d. good (K.Calendar.codes calendar.now d)) (C.Convention.tries convention.now) (map number_of days.now) (seen_schedule self.now) }
-        ensures suffices { RetrySuffices (λ d. good (K.Calendar.codes calendar.now d)) (C.Convention.tries convention.now) (map number_of days.now) (seen_schedule self.now) }
+        ensures is { result_map_both seen_schedule generation_refusal result ≡ retried (λ d. good (K.Calendar.codes adjuster.now.calendar.now d)) (C.Convention.tries adjuster.now.convention.now) (map number_of days.now) (seen_schedule self.now) }
+        ensures suffices { RetrySuffices (λ d. good (K.Calendar.codes adjuster.now.calendar.now d)) (C.Convention.tries adjuster.now.convention.now) (map number_of days.now) (seen_schedule self.now) }
     {
         let mut anew = self.days;
         for i in 0..self.count() {
-            anew[i as usize] = self.retry_roll(calendar, convention, days, i)?;
+            anew[i as usize] = self.retry_roll(adjuster, days, i)?;
         }
         Ok(Schedule {
             rolls: self.rolls,

@@ -1,5 +1,6 @@
-use Rattle.std.proofs.Common.{ℕ, ◌<◌, List, length, sym, refl, ◌∙◌, arith}
+use Rattle.std.proofs.Common.{ℕ, ◌<◌, List, length, sym, refl, ◌∙◌, arith, rules}
 use Rattle.conventions.proofs.Scanning.{tried}
+use Rattle.generation.specs.Views.{seen_footing}
 use Rattle.generation.proofs.Tried.{count_served, count_is, served_answer}
 use Rattle.generation.proofs.Spans.{at_next, at_end, run_out}
 use Rattle.generation.proofs.footing.span_to.Goals as goal
@@ -7,16 +8,16 @@ use Rattle.generation.proofs.footing.span_to.Goals as goal
 pub loop-k-init : goal.loop-k-init
 loop-k-init g c = refl
 
-pub returns-then-day-at : goal.returns-then-day-at
-returns-then-day-at g c =
+pub returns-then-eq : goal.returns-then-eq
+returns-then-eq g c =
     let tries : ℕ → List ℕ = g.C.Convention.tries c.args.convention.now in
     let u = c.args.u.0 in
     let n = c.in_ok-count.ensures in
     let m = count_is tries u _ n in
     let w : c.loop-k.k < length (tries u) = omega arith in
     served_answer u _ _ _ (count_served tries u _ n)
-    (at_end c.loop-k.low c.loop-k.high c.args.at (tries u) c.loop-k.k c.in_ok-day.day.0 _ _ w
-    (sym (tried tries u c.loop-k.k _ c.in_ok-day.ensures).here) c.if-day-at.true c.min-low.ensures c.max-high.ensures
+    (at_end (seen_footing c.loop-k.span) (seen_footing c.around-span.result) c.args.at.0 (tries u) c.loop-k.k c.in_ok-day.day.0 w
+    (sym (tried tries u c.loop-k.k _ c.in_ok-day.ensures).here) (search rules) c.around-span.ensures
     ∙ c.loop-k.invariant)
 
 pub loop-k-preserved : goal.loop-k-preserved
@@ -25,8 +26,8 @@ loop-k-preserved g c =
     let u = c.args.u.0 in
     let m = count_is tries u _ c.in_ok-count.ensures in
     let w : c.loop-k.k < length (tries u) = omega arith in
-    at_next c.loop-k.low c.loop-k.high c.args.at (tries u) c.loop-k.k c.in_ok-day.day.0 _ _ w
-    (sym (tried tries u c.loop-k.k _ c.in_ok-day.ensures).here) c.if-day-at.false c.min-low.ensures c.max-high.ensures
+    at_next (seen_footing c.loop-k.span) (seen_footing c.around-span.result) c.args.at.0 (tries u) c.loop-k.k c.in_ok-day.day.0 w
+    (sym (tried tries u c.loop-k.k _ c.in_ok-day.ensures).here) (search rules) c.around-span.ensures
     ∙ c.loop-k.invariant
 
 pub returns : goal.returns
@@ -36,4 +37,4 @@ returns g c =
     let n = c.in_ok-count.ensures in
     let m = count_is tries u _ n in
     served_answer u _ _ _ (count_served tries u _ n)
-    (run_out c.loop-k.low c.loop-k.high c.args.at (tries u) c.loop-k.k (omega arith) ∙ c.loop-k.invariant)
+    (run_out (seen_footing c.loop-k.span) c.args.at.0 (tries u) c.loop-k.k (omega arith) ∙ c.loop-k.invariant)

@@ -1,24 +1,24 @@
-use Rattle.std.proofs.Common.{◌≡◌, ℕ, List, map, get_or, sym, ap, ◌∙◌, arith}
+use Rattle.std.proofs.Common.{◌≡◌, ℕ, List, map, get_or, sym, ap, ◌∙◌, arith, rules}
 use Rattle.bonds.specs.Rolls.{rolls}
-use Rattle.generation.specs.Rolls.{Span, footing}
+use Rattle.generation.specs.Rolls.{footing}
 use Rattle.generation.specs.Schedules.{seen_schedule, roll_in}
 use Rattle.generation.specs.Retrying.{holds_one, counts}
 use Rattle.generation.specs.Views.{number_of, seen_roll}
 use Rattle.generation.proofs.ScheduleLengths.{counted, seen_at, roll_there, never_absent}
-use Rattle.generation.proofs.Tried.{footing_is}
 use Rattle.generation.proofs.schedule.Schedule.counts.Goals as goal
 
 pub returns-in_default : goal.returns-in_default
 returns-in_default g c = absurd (never_absent c.args.self.now c.args.i c.requires c.in_default.ensures.is)
 
-pub returns-in-Ok : goal.returns-in-Ok
+pub returns : goal.returns
 unfolding counts
-returns-in-Ok g c =
+returns g c =
     let s = c.args.self.now in
+    let days = map number_of c.args.days.now in
     let tries : ℕ → List ℕ = g.C.Convention.tries c.args.convention.now in
     let n = counted s in
     let u : c.in-Some.u.0 ≡ get_or (rolls s.rolls.terms) c.args.i 0 = roll_there s c.args.i c.in-Some.u c.requires c.in-Some.ensures.is in
-    let r : seen_roll (get_or s.days c.args.i c.index-self-i.result) ≡ roll_in (seen_schedule s) c.args.i = sym (seen_at s c.args.i c.index-self-i.result _ (omega (arith, c.requires))) in
-    c.holds_one.ensures
-    ∙ ap (λ (x : Span). holds_one x (map number_of c.args.days.now))
-    (footing_is tries c.in-Some.u.0 _ _ c.in-Ok.ensures.is ∙ (λ i. footing (u i) (tries (u i)) (r i)))
+    let r : seen_roll c.index-self-i.result ≡ roll_in (seen_schedule s) c.args.i =
+    ap seen_roll c.index-self-i.is ∙ sym (seen_at s c.args.i c.index-self-i.result _ (omega (arith, c.requires))) in
+    let held : c.is_ok_and.result ≡ holds_one (footing c.in-Some.u.0 (tries c.in-Some.u.0) (seen_roll c.index-self-i.result)) days = search rules in
+    held ∙ (λ i. holds_one (footing (u i) (tries (u i)) (r i)) days)

@@ -15,8 +15,8 @@ use Rattle.generation.proofs.schedule.Schedule.generate.Goals as goal
 
 pub returns-in_err-first : goal.returns-in_err-first
 returns-in_err-first g c =
-    let ok : ℕ → Bool = λ d. good (g.K.Calendar.codes c.args.calendar.now d) in
-    let tries : ℕ → List ℕ = g.C.Convention.tries c.args.convention.now in
+    let ok : ℕ → Bool = λ d. good (g.K.Calendar.codes c.args.adjuster.now.calendar.now d) in
+    let tries : ℕ → List ℕ = g.C.Convention.tries c.args.adjuster.now.convention.now in
     let t = c.args.rolls.terms in
     let p = err_from_is_err_and c.from_residual.result c.from_residual.ensures.1 in
     record {
@@ -30,8 +30,8 @@ returns-in_err-first g c =
 
 pub loop-i-init : goal.loop-i-init
 loop-i-init g c =
-    let ok : ℕ → Bool = λ d. good (g.K.Calendar.codes c.args.calendar.now d) in
-    let tries : ℕ → List ℕ = g.C.Convention.tries c.args.convention.now in
+    let ok : ℕ → Bool = λ d. good (g.K.Calendar.codes c.args.adjuster.now.calendar.now d) in
+    let tries : ℕ → List ℕ = g.C.Convention.tries c.args.adjuster.now.convention.now in
     let t = c.args.rolls.terms in (
       granted_more (bond_roll ok tries t) c.count-count.result 0 [] (all_rolls ok tries t) (prefixed_start (bond_roll ok tries t) _ _ c.count-count.ensures.is) _
           (omega (arith, c.count-count.ensures.bound)) (sym c.in_ok-first.ensures),
@@ -40,8 +40,8 @@ loop-i-init g c =
 
 pub returns-in_err-days : goal.returns-in_err-days
 returns-in_err-days g c =
-    let ok : ℕ → Bool = λ d. good (g.K.Calendar.codes c.args.calendar.now d) in
-    let tries : ℕ → List ℕ = g.C.Convention.tries c.args.convention.now in
+    let ok : ℕ → Bool = λ d. good (g.K.Calendar.codes c.args.adjuster.now.calendar.now d) in
+    let tries : ℕ → List ℕ = g.C.Convention.tries c.args.adjuster.now.convention.now in
     let t = c.args.rolls.terms in
     let p = err_from_is_err_and c.from_residual-in_err-days.result c.from_residual-in_err-days.ensures.1 in
     record {
@@ -55,8 +55,8 @@ returns-in_err-days g c =
 
 pub loop-i-preserved : goal.loop-i-preserved
 loop-i-preserved g c =
-    let ok : ℕ → Bool = λ d. good (g.K.Calendar.codes c.args.calendar.now d) in
-    let tries : ℕ → List ℕ = g.C.Convention.tries c.args.convention.now in
+    let ok : ℕ → Bool = λ d. good (g.K.Calendar.codes c.args.adjuster.now.calendar.now d) in
+    let tries : ℕ → List ℕ = g.C.Convention.tries c.args.adjuster.now.convention.now in
     let t = c.args.rolls.terms in
     let i = c.loop-i.i in
     let days = c.loop-i.days in
@@ -69,8 +69,8 @@ loop-i-preserved g c =
 
 pub returns : goal.returns
 returns g c =
-    let ok : ℕ → Bool = λ d. good (g.K.Calendar.codes c.args.calendar.now d) in
-    let tries : ℕ → List ℕ = g.C.Convention.tries c.args.convention.now in
+    let ok : ℕ → Bool = λ d. good (g.K.Calendar.codes c.args.adjuster.now.calendar.now d) in
+    let tries : ℕ → List ℕ = g.C.Convention.tries c.args.adjuster.now.convention.now in
     let t = c.args.rolls.terms in
     let n : c.args.rolls.inner + 2 ≡ c.loop-i.i = (let l = rolls_length t in omega (arith, c.count-count.ensures.is, c.args.rolls.counted)) in
     record {

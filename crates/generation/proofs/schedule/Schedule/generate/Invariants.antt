@@ -11,6 +11,6 @@ use Rattle.generation.proofs.schedule.Schedule.generate.Given as goal
 abbrev pub invariant-loop-i : goal.invariant-loop-i
 invariant-loop-i g l =
     (prefixed (map seen_roll (take l.i l.days))
-    (each_granted (bond_roll (λ d. good (g.K.Calendar.codes l.calendar d)) (g.C.Convention.tries l.convention) l.rolls.terms) (upward (l.count - l.i) l.i))
-    ≡ all_rolls (λ d. good (g.K.Calendar.codes l.calendar d)) (g.C.Convention.tries l.convention) l.rolls.terms)
+    (each_granted (bond_roll (λ d. good (g.K.Calendar.codes l.adjuster.calendar.now d)) (g.C.Convention.tries l.adjuster.convention.now) l.rolls.terms) (upward (l.count - l.i) l.i))
+    ≡ all_rolls (λ d. good (g.K.Calendar.codes l.adjuster.calendar.now d)) (g.C.Convention.tries l.adjuster.convention.now) l.rolls.terms)
     × (length l.days ≡ 100)

@@ -15,15 +15,15 @@ use Rattle.generation.proofs.schedule.Schedule.retry.Goals as goal
 
 pub loop-i-init : goal.loop-i-init
 loop-i-init g c =
-    let ok : ℕ → Bool = λ d. good (g.K.Calendar.codes c.args.calendar.now d) in
-    let tries : ℕ → List ℕ = g.C.Convention.tries c.args.convention.now in
+    let ok : ℕ → Bool = λ d. good (g.K.Calendar.codes c.args.adjuster.now.calendar.now d) in
+    let tries : ℕ → List ℕ = g.C.Convention.tries c.args.adjuster.now.convention.now in
     let f : ℕ → Result RollDays Refusal = retried_roll ok tries (map number_of c.args.days.now) (seen_schedule c.args.self.now) in
     (prefixed_start f _ _ refl, c.args.self.now.size)
 
 pub returns-in_err-anew : goal.returns-in_err-anew
 returns-in_err-anew g c =
-    let ok : ℕ → Bool = λ d. good (g.K.Calendar.codes c.args.calendar.now d) in
-    let tries : ℕ → List ℕ = g.C.Convention.tries c.args.convention.now in
+    let ok : ℕ → Bool = λ d. good (g.K.Calendar.codes c.args.adjuster.now.calendar.now d) in
+    let tries : ℕ → List ℕ = g.C.Convention.tries c.args.adjuster.now.convention.now in
     let ds = map number_of c.args.days.now in
     let x = seen_schedule c.args.self.now in
     let f : ℕ → Result RollDays Refusal = retried_roll ok tries ds x in
@@ -39,8 +39,8 @@ returns-in_err-anew g c =
 
 pub loop-i-preserved : goal.loop-i-preserved
 loop-i-preserved g c =
-    let ok : ℕ → Bool = λ d. good (g.K.Calendar.codes c.args.calendar.now d) in
-    let tries : ℕ → List ℕ = g.C.Convention.tries c.args.convention.now in
+    let ok : ℕ → Bool = λ d. good (g.K.Calendar.codes c.args.adjuster.now.calendar.now d) in
+    let tries : ℕ → List ℕ = g.C.Convention.tries c.args.adjuster.now.convention.now in
     let x = seen_schedule c.args.self.now in
     let f : ℕ → Result RollDays Refusal = retried_roll ok tries (map number_of c.args.days.now) x in
     let i = c.loop-i.i in
@@ -54,8 +54,8 @@ loop-i-preserved g c =
 
 pub returns : goal.returns
 returns g c =
-    let ok : ℕ → Bool = λ d. good (g.K.Calendar.codes c.args.calendar.now d) in
-    let tries : ℕ → List ℕ = g.C.Convention.tries c.args.convention.now in
+    let ok : ℕ → Bool = λ d. good (g.K.Calendar.codes c.args.adjuster.now.calendar.now d) in
+    let tries : ℕ → List ℕ = g.C.Convention.tries c.args.adjuster.now.convention.now in
     let ds = map number_of c.args.days.now in
     let x = seen_schedule c.args.self.now in
     let f : ℕ → Result RollDays Refusal = retried_roll ok tries ds x in

@@ -11,8 +11,8 @@ use Rattle.generation.proofs.schedule.Schedule.retry.Given as goal
 abbrev pub invariant-loop-i : goal.invariant-loop-i
 invariant-loop-i g l =
     (prefixed (map seen_roll (take l.i l.anew))
-    (each_granted (retried_roll (λ d. good (g.K.Calendar.codes l.calendar d)) (g.C.Convention.tries l.convention) (map number_of l.days) (seen_schedule l.self))
+    (each_granted (retried_roll (λ d. good (g.K.Calendar.codes l.adjuster.calendar.now d)) (g.C.Convention.tries l.adjuster.convention.now) (map number_of l.days) (seen_schedule l.self))
     (upward (length (seen_schedule l.self).days - l.i) l.i))
-    ≡ each_granted (retried_roll (λ d. good (g.K.Calendar.codes l.calendar d)) (g.C.Convention.tries l.convention) (map number_of l.days) (seen_schedule l.self))
+    ≡ each_granted (retried_roll (λ d. good (g.K.Calendar.codes l.adjuster.calendar.now d)) (g.C.Convention.tries l.adjuster.convention.now) (map number_of l.days) (seen_schedule l.self))
     (upward (length (seen_schedule l.self).days) 0))
     × (length l.anew ≡ 100)

@@ -11,15 +11,15 @@ roll_of_bond-requires g c = let n = counted c.args.self.now in omega (arith, c.r
 
 pub returns-then-counts : goal.returns-then-counts
 returns-then-counts g c =
-    let ok : ℕ → Bool = λ d. good (g.K.Calendar.codes c.args.calendar.now d) in
-    let tries : ℕ → List ℕ = g.C.Convention.tries c.args.convention.now in
+    let ok : ℕ → Bool = λ d. good (g.K.Calendar.codes c.args.adjuster.now.calendar.now d) in
+    let tries : ℕ → List ℕ = g.C.Convention.tries c.args.adjuster.now.convention.now in
     c.roll_of_bond.ensures
     ∙ when_counted ok tries (map number_of c.args.days.now) (seen_schedule c.args.self.now) c.args.i (sym c.counts.ensures ∙ c.if-counts.true)
 
 pub returns : goal.returns
 returns g c =
-    let ok : ℕ → Bool = λ d. good (g.K.Calendar.codes c.args.calendar.now d) in
-    let tries : ℕ → List ℕ = g.C.Convention.tries c.args.convention.now in
+    let ok : ℕ → Bool = λ d. good (g.K.Calendar.codes c.args.adjuster.now.calendar.now d) in
+    let tries : ℕ → List ℕ = g.C.Convention.tries c.args.adjuster.now.convention.now in
     let n = counted c.args.self.now in
     ap Ok (sym (seen_at c.args.self.now c.args.i c.index-self-i.result _ (omega (arith, c.requires))))
     ∙ when_not_counted ok tries (map number_of c.args.days.now) (seen_schedule c.args.self.now) c.args.i (sym c.counts.ensures ∙ c.if-counts.false)
