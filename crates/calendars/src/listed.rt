@@ -66,9 +66,7 @@ impl Calendar for Listed<'_> {
     ghost small = { λ s d. closing_small _ _ s.layer.within.1 };
 
     fn code(&self, day: Day) -> Result<u8, CalendarFault> {
-        if day.0 > LAST_DAY {
-            return Err(CalendarFault::DayAbove(day.0));
-        }
+        let day = day.checked()?;
         Ok(self.layer.code(self.days.contains(&day)))
     }
 }

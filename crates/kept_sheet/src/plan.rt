@@ -10,7 +10,7 @@ ghost use Rattle.kept_sheet.specs.Notices.{counted};
 ghost use Rattle.kept_sheet.specs.Plans.{SameBonds};
 
 use calendars::Calendar;
-use conventions::Convention;
+use conventions::{Adjuster, Convention};
 use dates::Day;
 use faults::GenerationFault;
 use generation::Schedule;
@@ -35,21 +35,20 @@ pub(crate) fn counted<C: Convention>(
 pub(crate) fn retry_places<K: Calendar, C: Convention>(
     places: [Option<Schedule>; 32],
     count: usize,
-    calendar: &K,
-    convention: &C,
+    adjuster: &Adjuster<'_, K, C>,
     days: &[Day],
 ) -> Result<[Option<Schedule>; 32], GenerationFault>
     requires few { count ≤ 32 }
     requires long { length places ≡ 32 }
     requires live { all_live (take count places) ≡ true }
-    ensures is { result_map_both (λ ps. kept (take count ps)) generation_refusal result ≡ each_granted (retried (λ d. good (K.Calendar.codes calendar.now d)) (C.Convention.tries convention.now) (map number_of days.now)) (kept (take count places)) }
+    ensures is { result_map_both (λ ps. kept (take count ps)) generation_refusal result ≡ each_granted (retried (λ d. good (K.Calendar.codes adjuster.now.calendar.now d)) (C.Convention.tries adjuster.now.convention.now) (map number_of days.now)) (kept (take count places)) }
     ensures same { IfOk result (λ ps. SameBonds count places ps) }
 {
     let mut anew = places;
     let live = &mut anew[..count];
     for place in live.iter_mut() {
         if let Some(schedule) = place {
-            *schedule = schedule.retry(calendar, convention, days)?;
+            *schedule = schedule.retry(adjuster, days)?;
         }
     }
     Ok(anew)

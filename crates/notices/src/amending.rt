@@ -8,18 +8,8 @@ ghost use Rattle.notices.specs.NoticeLaws.{NoticeLaw};
 use crate::notice::Notice;
 use amendments::Amendable;
 use calendars::Calendar;
-use dates::{Day, LAST_DAY};
+use dates::Day;
 use faults::{CalendarFault, Fault, SheetFault};
-
-/// 10 for a day after 31 December 2199.
-fn check_day(day: Day) -> Result<(), CalendarFault>
-    ensures { told calendar_refusal result ≡ asked day.0 tt }
-{
-    if day.0 > LAST_DAY {
-        return Err(CalendarFault::DayAbove(day.0));
-    }
-    Ok(())
-}
 
 /// 12 unless the day is good, or unless it is closed, as it has to be.
 fn check_state<P: Amendable>(calendar: &P, day: Day, good: bool) -> Result<(), Fault>
@@ -60,8 +50,8 @@ fn check_one<P: Amendable>(calendar: &P, day: Day, good: bool) -> Result<(), Fau
 fn check_move<P: Amendable>(calendar: &P, from: Day, to: Day) -> Result<(), Fault>
     ensures { told refusal result ≡ calendar_answer (meaning (P.Calendar.codes calendar.now) (P.Amendable.rest calendar.now)) (Notice.Move from to) }
 {
-    check_day(from)?;
-    check_day(to)?;
+    let from = from.checked()?;
+    let to = to.checked()?;
     if from == to {
         return Err(SheetFault::SameDay.into());
     }

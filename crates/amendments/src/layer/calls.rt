@@ -14,7 +14,7 @@ use crate::amendable::Amendable;
 use crate::amendment::Amendment;
 use crate::layer::AmendmentLayer;
 use calendars::{Calendar, Code, Layer};
-use dates::{Day, LAST_DAY};
+use dates::Day;
 use faults::CalendarFault;
 use tables::{find, insert, remove};
 
@@ -48,9 +48,7 @@ impl<K: Calendar> AmendmentLayer<K> {
         ensures answer { told calendar_refusal result ≡ amend_answer (layer_now K.Calendar.codes self.old).rest day.0 }
         ensures after { layer_now K.Calendar.codes self.new ≡ if_granted (told calendar_refusal result) (amended (layer_now K.Calendar.codes self.old) day.0 code.value) (layer_now K.Calendar.codes self.old) }
     {
-        if day.0 > LAST_DAY {
-            return Err(CalendarFault::DayAbove(day.0));
-        }
+        let day = day.checked()?;
         if let Ok(at) = self.find(day) {
             self.entries[at].code = code;
             return Ok(());
@@ -94,9 +92,7 @@ impl<K: Calendar> Amendable for AmendmentLayer<K> {
     }
 
     fn is_entered(&self, day: Day) -> Result<bool, CalendarFault> {
-        if day.0 > LAST_DAY {
-            return Err(CalendarFault::DayAbove(day.0));
-        }
+        let day = day.checked()?;
         Ok(self.find(day).is_ok())
     }
 
@@ -117,9 +113,7 @@ impl<K: Calendar> Amendable for AmendmentLayer<K> {
     }
 
     fn restore(&mut self, day: Day) -> Result<(), CalendarFault> {
-        if day.0 > LAST_DAY {
-            return Err(CalendarFault::DayAbove(day.0));
-        }
+        let day = day.checked()?;
         if !remove(&mut self.entries, self.count, u64::from(day.0)) {
             return Err(CalendarFault::NotEntered(day.0));
         }

@@ -7,7 +7,7 @@ ghost use Rattle.calendars.specs.Rules.{held, any, add_answer, after_add, rule_c
 use crate::calendar::Calendar;
 use crate::layer::Layer;
 use crate::rule::{Entry, Rule};
-use dates::{Day, LAST_DAY};
+use dates::Day;
 use faults::CalendarFault;
 
 impl<E: Entry, const N: usize> Rule<E, N> {
@@ -41,9 +41,7 @@ impl<E: Entry, const N: usize> Rule<E, N> {
     fn is_closed(&self, day: Day) -> Result<bool, CalendarFault>
         ensures { told calendar_refusal result ≡ asked day.0 (any (λ e. E.Entry.closes e day.0) (held self.now).entries) }
     {
-        if day.0 > LAST_DAY {
-            return Err(CalendarFault::DayAbove(day.0));
-        }
+        let day = day.checked()?;
         for held in self.held() {
             if held.closes_on(day)? {
                 return Ok(true);

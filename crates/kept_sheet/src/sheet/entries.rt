@@ -12,7 +12,7 @@ use crate::sheet::{MOST_BONDS, MOST_ROLLS, Sheet};
 use amendments::Amendable;
 use bonds::{Bond, Rolls, Terms};
 use calendars::Calendar;
-use conventions::Convention;
+use conventions::{Adjuster, Convention};
 use faults::{Fault, SheetFault};
 use generation::Schedule;
 use tables::{find, insert, remove};
@@ -90,7 +90,11 @@ impl<P: Amendable, C: Convention> Sheet<P, C> {
     {
         let terms = bond.terms()?;
         let rolls = self.admit(terms)?;
-        let schedule = Schedule::generate(&self.calendar, &self.convention, rolls)?;
+        let adjuster = Adjuster {
+            calendar: &self.calendar,
+            convention: &self.convention,
+        };
+        let schedule = Schedule::generate(&adjuster, rolls)?;
         if !insert(&mut self.places, self.count, Some(schedule)) {
             return Err(Fault::Sheet(SheetFault::SheetFull(bond.number)));
         }

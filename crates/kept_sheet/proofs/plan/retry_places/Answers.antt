@@ -18,13 +18,13 @@ loop-place-init g c = (none_done _ _, c.requires.live, refl)
 
 pub returns-in_err-schedule-clause-is : goal.returns-in_err-schedule-clause-is
 returns-in_err-schedule-clause-is g c =
-    let f : Scheduled → Result Scheduled Refusal = retried (λ d. good (g.K.Calendar.codes c.args.calendar.now d)) (g.C.Convention.tries c.args.convention.now) (map number_of c.args.days.now) in
+    let f : Scheduled → Result Scheduled Refusal = retried (λ d. good (g.K.Calendar.codes c.args.adjuster.now.calendar.now d)) (g.C.Convention.tries c.args.adjuster.now.convention.now) (map number_of c.args.days.now) in
     let p = err_from_is_err_and c.from_residual.result c.from_residual.ensures.1 in
     rw (p.1, p.2) (one_refused f c.loop-place.live c.loop-place.place-index (omega arith) c.place-item.result c.in-Some.schedule c.in-Some.is _ (sym c.in_err-schedule.ensures.is) ∙ c.loop-place.invariant.0)
 
 pub loop-place-preserved : goal.loop-place-preserved
 loop-place-preserved g c =
-    let f : Scheduled → Result Scheduled Refusal = retried (λ d. good (g.K.Calendar.codes c.args.calendar.now d)) (g.C.Convention.tries c.args.convention.now) (map number_of c.args.days.now) in
+    let f : Scheduled → Result Scheduled Refusal = retried (λ d. good (g.K.Calendar.codes c.args.adjuster.now.calendar.now d)) (g.C.Convention.tries c.args.adjuster.now.convention.now) (map number_of c.args.days.now) in
     let ps = c.loop-place.live in
     let i = c.loop-place.place-index in
     let d = c.place-item.result in
@@ -42,7 +42,7 @@ loop-place-preserved g c =
 
 pub returns : goal.returns
 returns g c =
-    let f : Scheduled → Result Scheduled Refusal = retried (λ d. good (g.K.Calendar.codes c.args.calendar.now d)) (g.C.Convention.tries c.args.convention.now) (map number_of c.args.days.now) in
+    let f : Scheduled → Result Scheduled Refusal = retried (λ d. good (g.K.Calendar.codes c.args.adjuster.now.calendar.now d)) (g.C.Convention.tries c.args.adjuster.now.convention.now) (map number_of c.args.days.now) in
     let old = take c.args.count c.args.places in
     let ps = c.loop-place.live in
     let few = length-take-le c.args.count c.args.places (omega (arith, c.requires.few, c.requires.long)) in

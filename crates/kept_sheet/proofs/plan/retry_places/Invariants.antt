@@ -9,6 +9,6 @@ use Rattle.kept_sheet.proofs.plan.retry_places.Given as goal
 
 abbrev pub invariant-loop-place : goal.invariant-loop-place
 invariant-loop-place g l =
-    let f = retried (λ d. good (g.K.Calendar.codes l.calendar d)) (g.C.Convention.tries l.convention) (map number_of l.days) in
+    let f = retried (λ d. good (g.K.Calendar.codes l.adjuster.calendar.now d)) (g.C.Convention.tries l.adjuster.convention.now) (map number_of l.days) in
     let old = take l.count l.fn.places in
     (done f l.place-index l.live ≡ each_granted f (kept old)) × (all_live l.live ≡ true) × (map place_number l.live ≡ map place_number old)
