@@ -39,11 +39,6 @@ unfolding month_len
 len_high true m h = at_most (λ k. month_len true k) (λ k. 31) 12 refl m h
 len_high false m h = at_most (λ k. month_len false k) (λ k. 31) 12 refl m h
 
-pub start_bound : (b : Bool) (m : ℕ) → m < 12 → month_start b m ≤ 335
-unfolding month_start
-start_bound true m h = at_most (λ k. month_start true k) (λ k. 335) 12 refl m h
-start_bound false m h = at_most (λ k. month_start false k) (λ k. 335) 12 refl m h
-
 pub month_rising : (b : Bool) (m : ℕ) → month_start b m ≤ month_start b (suc m)
 month_rising b m = omega (arith, month_more b m)
 

@@ -38,27 +38,6 @@ only s n r x j k p q =
       | inr (inr gt) ↦ absurd (omega (arith, q.high (omega arith), p.low, rises s n r (suc k) j gt p.top))
     ]
 
-pub none : (s : ℕ → ℕ) (x : ℕ) → last_place s 0 x ≡ 0
-unfolding last_place
-none s x = refl
-
-pub stop : (s : ℕ → ℕ) (n x : ℕ) → s (suc n) ≤ x → last_place s (suc n) x ≡ suc n
-unfolding last_place
-stop s n x h = rw (Rattle.std.proofs.lemmas.Bool.le-leb (s (suc n)) x h, last_place)
-
-pub pass : (s : ℕ → ℕ) (n x : ℕ) → x < s (suc n) → last_place s (suc n) x ≡ last_place s n x
-unfolding last_place
-pass s n x h = rw (Rattle.std.proofs.lemmas.Bool.lt-leb (s (suc n)) x h, last_place)
-
--- the same, at the number below
-pub stop_at : (s : ℕ → ℕ) (n x : ℕ) → s n ≤ x → last_place s n x ≡ n
-stop_at s zero x h = none s x
-stop_at s (suc n) x h = stop s n x h
-
-pub pass_at : (s : ℕ → ℕ) (n x : ℕ) → 0 < n → x < s n → last_place s n x ≡ last_place s (n - 1) x
-pass_at s zero x p h = absurd (omega arith)
-pass_at s (suc n) x p h = let e : suc n - 1 ≡ n = omega arith in rw e (pass s n x h)
-
 -- where x lies below the row's end, it lies within the step at its place
 pub record Within (s : ℕ → ℕ) (n x k : ℕ) : Type 0 where
   pub top : k ≤ n

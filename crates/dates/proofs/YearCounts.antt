@@ -21,6 +21,3 @@ rising k = omega arith
 pub year_more : (k : ℕ) → new_year (suc k) ≡ new_year k + year_len (1900 + k)
 unfolding new_year
 year_more k = refl
-
-pub year_bound : (n : ℕ) → n ≤ 300 → new_year n ≤ 366 * n
-year_bound n h = grind (arith, counted n h)

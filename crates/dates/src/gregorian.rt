@@ -17,12 +17,13 @@ pub(crate) fn new_year(n: u32) -> u32
     365 * n + n.saturating_sub(1) / 4 - u32::from(n > 200)
 }
 
-/// The year, from 1900, in which a day lies. No year is longer than 366 days, so that the guess is at most one year too early.
+/// The year, from 1900, in which a day lies.
 pub(crate) fn year_of(d: u32) -> u32
     requires { d ≤ 109572 }
     ensures is { result ≡ year_of d }
     ensures bound { result ≤ 299 }
 {
+    // A year has at most 366 days and 300 years at most 227 fewer than so many: the guess is the year or the one before it.
     let n = d / 366;
     if new_year(n + 1) <= d { n + 1 } else { n }
 }

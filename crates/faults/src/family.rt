@@ -4,6 +4,7 @@ ghost use Rattle.faults.specs.declared.origins.Fault.TheVariants.{Calendar, Gene
 
 use crate::origins::{CalendarFault, Fault, GenerationFault, SheetFault, TextFault};
 
+// Five methods and no trait: nothing is generic in a refusal's origin, and each body is a table of its own.
 impl CalendarFault {
     pub fn number(self) -> u8
         ensures { result ≡ (calendar_refusal self).number }

@@ -15,6 +15,7 @@ pub enum CalendarFault {
     NotRising(usize),
 }
 
+// Numbers and no `Option`: without a bond the refusal still names bond 0 and roll 0.
 /// A roll of a bond, with the day that the terms give it; bond and roll are 0 where there is no bond.
 #[derive(Clone, Copy, PartialEq, Eq, Debug)]
 pub struct RollAt {

@@ -30,12 +30,13 @@ impl Month {
         })
     }
 
-    /// The month in which a day lies. No month is longer than 31 days, so that the guess is at most one month too early.
+    /// The month in which a day lies.
     fn holding(d: u32) -> Month
         requires { d ≤ 109572 }
         ensures { result.index ≡ month_no d }
     {
         let year = year_of(d);
+        // A month has at most 31 days and a year at most 7 fewer than 12 such: the guess is the month or the one before it.
         let guess = Month {
             index: 12 * year + (d - new_year(year)) / 31,
         };
