@@ -59,10 +59,10 @@ impl KeptDays {
         ensures start { self.new.start ≡ self.old.start }
         ensures codes { cache_codes self.new.words self.new.start (P.Calendar.codes lower.now) ≡ recoded (cache_codes self.old.words self.old.start (P.Calendar.codes lower.now)) day.0 (P.Calendar.codes lower.now day.0) }
     {
-        if let Some(k) = self.place_of(day) {
-            if let Ok(code) = lower.code(day) {
-                keep_code(&mut self.words, k, Code::new(code));
-            }
+        if let Some(k) = self.place_of(day)
+            && let Ok(code) = lower.code(day)
+        {
+            keep_code(&mut self.words, k, Code::new(code));
         }
     }
 }
