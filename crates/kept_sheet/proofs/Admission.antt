@@ -1,5 +1,5 @@
 -- Which bonds may stand beside the live ones.
-use Rattle.std.proofs.Common.{◌≡◌, ℕ, ◌+◌, ◌<◌, ◌≤◌, Bool, true, false, cond, ltb, leb, List, [], ◌∷◌, length, Ok, Err, Result, refl, ◌∙◌, arith}
+use Rattle.std.proofs.Common.{◌≡◌, ℕ, ◌+◌, ◌<◌, ◌≤◌, Bool, true, false, cond, ltb, leb, List, [], ◌∷◌, length, Ok, Err, Result, sym, refl, ap, ◌∙◌, arith}
 use Rattle.std.proofs.lemmas.Bool.Decides.{nat_tests}
 use Rattle.faults.specs.Refusals.{Refusal, refuse}
 use Rattle.tables.specs.Tables.{has}
@@ -8,47 +8,48 @@ use Rattle.bonds.specs.Rolls.{rolls, rolls_answer}
 use Rattle.kept_sheet.specs.FreshSheets.{number, roll_total}
 use Rattle.kept_sheet.specs.Entries.{has_room, admitted}
 
-module _ (bonds : List Terms) (t : Terms) where
+-- Terms whose number is k.
+module _ (bonds : List Terms) (t : Terms) (k : ℕ) (named : k ≡ number t) where
   -- the number is live
-  pub is_live : has number (number t) bonds ≡ true → refuse 3 (number t ∷ []) ≡ admitted bonds t
+  pub is_live : has number k bonds ≡ true → refuse 3 (k ∷ []) ≡ admitted bonds t
   unfolding admitted
-  is_live h = rw h
+  is_live h = let l : has number (number t) bonds ≡ true = ap (λ (n : ℕ). has number n bonds) (sym named) ∙ h in rw (named, l)
 
-  module _ (absent : has number (number t) bonds ≡ false) where
+  module _ (absent : has number k bonds ≡ false) where
+    new : has number (number t) bonds ≡ false
+    new = ap (λ (n : ℕ). has number n bonds) (sym named) ∙ absent
+
     -- the bond has too many rolls
     pub too_many : (e : Refusal) → Err e ≡ rolls_answer t → Err e ≡ admitted bonds t
     unfolding admitted
-    too_many e r = go (leb (length (rolls t)) 100) r ∙ rw absent refl
+    too_many e r = go (leb (length (rolls t)) 100) r ∙ rw new refl
       where
         go : (b : Bool) → Err e ≡ cond b (Ok t) (refuse 5 (number t ∷ []))
             → Err e ≡ cond b (cond (has_room bonds (length (rolls t))) (Ok t) (refuse 6 (number t ∷ []))) (refuse 5 (number t ∷ []))
         go true s = let z : ◌≡◌ {A = ℕ} 0 1 = cc in absurd (let w : ⊥ = omega arith in w)
         go false s = s
 
-    few : (x : Terms) → Ok x ≡ rolls_answer t → leb (length (rolls t)) 100 ≡ true
-    few x r = go (leb (length (rolls t)) 100) refl r
-      where
-        go : (b : Bool) → leb (length (rolls t)) 100 ≡ b → Ok x ≡ cond b (Ok t) (refuse 5 (number t ∷ [])) → leb (length (rolls t)) 100 ≡ true
-        go true p s = p
-        go false p s = let z : ◌≡◌ {A = ℕ} 0 1 = cc in absurd (let w : ⊥ = omega arith in w)
+    -- its rolls were granted, and are m
+    module _ (x : Terms) (granted : Ok x ≡ rolls_answer t) (m : ℕ) (many : m ≡ length (rolls x)) where
+      few : (leb (length (rolls t)) 100 ≡ true) × (x ≡ t)
+      few = go (leb (length (rolls t)) 100) refl granted
+        where
+          go : (b : Bool) → leb (length (rolls t)) 100 ≡ b → Ok x ≡ cond b (Ok t) (refuse 5 (number t ∷ [])) → (leb (length (rolls t)) 100 ≡ true) × (x ≡ t)
+          go true p s = (p, cc)
+          go false p s = let z : ◌≡◌ {A = ℕ} 0 1 = cc in absurd (let w : ⊥ = omega arith in w)
 
-    module _ (x : Terms) (granted : Ok x ≡ rolls_answer t) where
+      room : {b : Bool} → has_room bonds m ≡ b → has_room bonds (length (rolls t)) ≡ b
+      room h = ap (has_room bonds) (sym (many ∙ ap (λ (y : Terms). length (rolls y)) few.1)) ∙ h
+
       -- there is no room
-      pub no_room : has_room bonds (length (rolls t)) ≡ false → refuse 6 (number t ∷ []) ≡ admitted bonds t
+      pub no_room : has_room bonds m ≡ false → refuse 6 (k ∷ []) ≡ admitted bonds t
       unfolding admitted
-      no_room h = let f = few x granted in rw (absent, f, h)
+      no_room h = let a = new in let f = few.0 in let r = room h in rw (named, a, f, r)
 
       -- there is
-      pub may_stand : has_room bonds (length (rolls t)) ≡ true → Ok t ≡ admitted bonds t
+      pub may_stand : has_room bonds m ≡ true → Ok x ≡ admitted bonds t
       unfolding admitted
-      may_stand h = let f = few x granted in rw (absent, f, h)
-
-      pub same_terms : x ≡ t
-      same_terms = go (leb (length (rolls t)) 100) granted
-        where
-          go : (b : Bool) → Ok x ≡ cond b (Ok t) (refuse 5 (number t ∷ [])) → x ≡ t
-          go true s = cc
-          go false s = let z : ◌≡◌ {A = ℕ} 0 1 = cc in absurd (let w : ⊥ = omega arith in w)
+      may_stand h = let a = new in let f = few.0 in let r = room h in ap Ok few.1 ∙ rw (a, f, r) refl
 
 -- room for one more bond is a matter of its rolls
 pub room_by_rolls : (bonds : List Terms) (total n : ℕ) → length bonds < 32 → total ≡ roll_total bonds → leb (total + n) 400 ≡ has_room bonds n
