@@ -4,6 +4,7 @@ pub mod Standing
 pub mod Tried
 pub mod Runs
 pub mod Ordering
+pub mod Numbers
 pub mod Granted
 pub mod FirstFault
 pub mod ScheduleLengths

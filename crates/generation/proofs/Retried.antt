@@ -1,7 +1,7 @@
 -- A roll that does not stand on a changed day stays as it is, so trying the others anew is enough.
-use Rattle.std.proofs.Common.{◌≡◌, ℕ, zero, suc, ◌+◌, ◌-◌, ◌<◌, ◌≤◌, Bool, true, false, cond, ◌||◌, List, [], ◌∷◌, map, length, get_or, Ok, Result, sym, refl, ap, ◌∙◌, zero-add, arith}
+use Rattle.std.proofs.Common.{◌≡◌, ℕ, zero, suc, ◌+◌, ◌<◌, Bool, true, false, cond, ◌||◌, List, [], ◌∷◌, map, length, get_or, Ok, Result, sym, refl, ap, ◌∙◌, zero-add, arith}
 use Rattle.std.proofs.lemmas.Bool.Decides.{nat_tests}
-use Rattle.std.specs.List.{list_any}
+use Rattle.std.specs.List.{list_any, filter}
 use Rattle.faults.specs.Refusals.{Refusal, refuse}
 use Rattle.calendars.specs.Rules.{any}
 use Rattle.conventions.specs.Tries.{served}
@@ -79,12 +79,12 @@ module _ (good : ℕ → Bool) (tries : ℕ → List ℕ) (days : List ℕ) (x :
   pub when_not_counted : counts tries days x i ≡ false → Ok (roll_in x i) ≡ retried_roll good tries days x i
   when_not_counted e = ap (λ (b : Bool). cond b (bond_roll good tries x.terms i) (Ok (roll_in x i))) (sym e)
 
--- one more number that is tested
-pub how_many_next : (test : ℕ → Bool) (n i : ℕ) (b : Bool) → i < n → test i ≡ b → how_many test (upward (n - i) i) ≡ cond b 1 0 + how_many test (upward (n - (i + 1)) (i + 1))
-unfolding how_many upward
-how_many_next test n i b l e = let m : n - i ≡ suc (n - (i + 1)) = omega arith in rw (m, e)
-
--- none is left
-pub how_many_none : (test : ℕ → Bool) (n i : ℕ) → n ≤ i → how_many test (upward (n - i) i) ≡ 0
-unfolding how_many upward
-how_many_none test n i l = let m : n - i ≡ 0 = omega arith in rw m
+-- those that pass a test are as many as pass it
+pub how_many_pass : (test : ℕ → Bool) (ns : List ℕ) → length (filter test ns) ≡ how_many test ns
+unfolding how_many
+how_many_pass test [] = refl
+how_many_pass test (n ∷ ns) = go (test n) (how_many_pass test ns)
+  where
+    go : (b : Bool) → length (filter test ns) ≡ how_many test ns → length (cond b (n ∷ filter test ns) (filter test ns)) ≡ cond b 1 0 + how_many test ns
+    go true e = omega (arith, e)
+    go false e = omega (arith, e)

@@ -8,7 +8,7 @@ use conventions::Adjusted;
 use dates::Day;
 
 /// A payment: when it falls due, the fixing of its rate if there is one, its days and its amount.
-#[derive(Clone, Copy)]
+#[derive(Clone, Copy, PartialEq, Debug)]
 pub struct Payment {
     pub date: Adjusted,
     pub fixing: Option<Day>,

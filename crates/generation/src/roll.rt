@@ -2,7 +2,7 @@ use conventions::Adjusted;
 use dates::Day;
 
 /// What is generated of a roll: the adjusted day, and the fixing if the roll has one.
-#[derive(Clone, Copy)]
+#[derive(Clone, Copy, PartialEq, Debug)]
 pub struct Roll {
     pub adjusted: Adjusted,
     pub fixing: Option<Day>,

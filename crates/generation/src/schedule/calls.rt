@@ -26,6 +26,8 @@ impl Schedule {
         let count = rolls.count();
         let first = roll_of_bond(adjuster, &rolls, 0)?;
         let mut days = [first; 100];
+        // By index: `array::try_from_fn` does not say that the refusal is the first, and nothing is
+        // known of what is written through an adapter of `iter_mut`.
         for i in 1..count {
             days[i as usize] = roll_of_bond(adjuster, &rolls, i)?;
         }
@@ -52,7 +54,7 @@ impl Schedule {
     pub fn payment(&self, k: u64) -> Option<Payment>
         ensures { option_mapped seen_payment result ≡ payment_at (seen_schedule self.now) k }
     {
-        if k < 1 || k >= u64::from(self.count()) {
+        if !(1..u64::from(self.count())).contains(&k) {
             return None;
         }
         let at = k as usize;

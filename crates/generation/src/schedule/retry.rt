@@ -20,7 +20,7 @@ impl Footing {
     pub fn holds(&self, day: Day) -> bool
         ensures { result ≡ inside (seen_footing self.now) day.0 }
     {
-        self.low.0 <= day.0 && day.0 <= self.high.0
+        (self.low.0..=self.high.0).contains(&day.0)
     }
 
     /// Whether it holds one of the days.
@@ -50,13 +50,8 @@ impl Schedule {
         ensures is { result ≡ counted_in (C.Convention.tries convention.now) (map number_of days.now) (seen_schedule self.now) }
         ensures bound { result ≤ 100 }
     {
-        let mut counted = 0;
-        for i in 0..self.count() {
-            if self.counts(convention, days, i) {
-                counted += 1;
-            }
-        }
-        counted
+        let counted = (0..self.count()).filter(|i| self.counts(convention, days, *i));
+        counted.count() as u32
     }
 
     /// Roll i anew if it stands on one of the days, else as it is.
@@ -85,6 +80,7 @@ impl Schedule {
         ensures suffices { RetrySuffices (λ d. good (K.Calendar.codes adjuster.now.calendar.now d)) (C.Convention.tries adjuster.now.convention.now) (map number_of days.now) (seen_schedule self.now) }
     {
         let mut anew = self.days;
+        // By index, as in `generate`.
         for i in 0..self.count() {
             anew[i as usize] = self.retry_roll(adjuster, days, i)?;
         }

@@ -1,35 +1,21 @@
-use Rattle.std.proofs.Common.{◌≡◌, ℕ, ◌-◌, ◌<◌, Bool, true, false, map, length, sym, ap, ◌∙◌, zero-add, arith}
+use Rattle.std.proofs.Common.{ℕ, Bool, List, map, length, refl, ap, ◌∙◌, arith, rules, tests}
+use Rattle.std.proofs.lemmas.Iterator.{YieldsList-from_range}
+use Rattle.std.proofs.lemmas.Iterator.Consumers.{YieldsList-from_filter, YieldsList-at, count_from_yields_List}
+use Rattle.std.specs.List.{filter}
 use Rattle.conventions.specs.Turns.{upward}
 use Rattle.generation.specs.Retrying.{counts, how_many}
 use Rattle.generation.specs.Schedules.{seen_schedule}
 use Rattle.generation.specs.Views.{number_of}
-use Rattle.generation.proofs.Retried.{how_many_next, how_many_none}
-use Rattle.generation.proofs.schedule.Schedule.counted.Goals.{then-counts, else-counts}
+use Rattle.generation.proofs.Numbers.{in_order}
+use Rattle.generation.proofs.Retried.{how_many_pass}
 use Rattle.generation.proofs.schedule.Schedule.counted.Goals as goal
 
-pub loop-i-init : goal.loop-i-init
-loop-i-init g c =
+pub returns-clause-is : goal.returns-clause-is
+returns-clause-is g c =
     let test : ℕ → Bool = counts (g.C.Convention.tries c.args.convention.now) (map number_of c.args.days.now) (seen_schedule c.args.self.now) in
-    let n = length (seen_schedule c.args.self.now).days in
-    (zero-add _ ∙ ap (λ (m : ℕ). how_many test (upward m 0)) (let e : n - 0 ≡ n = omega arith in e), omega arith)
-
-pub loop-i-preserved : goal.loop-i-preserved
-loop-i-preserved g c =
-    let test : ℕ → Bool = counts (g.C.Convention.tries c.args.convention.now) (map number_of c.args.days.now) (seen_schedule c.args.self.now) in
-    let n = length (seen_schedule c.args.self.now).days in
-    let l : c.loop-i.i < n = omega (arith, c.count-i-end.ensures.is) in
-    elim c.if-counts.branch [
-      | then-counts w ↦
-          let e = how_many_next test n c.loop-i.i true l (sym c.counts.ensures ∙ w.if-counts.true) in
-          (omega (arith, w.counted-is, c.loop-i.invariant.0), omega (arith, w.counted-is, c.loop-i.invariant.1))
-      | else-counts w ↦
-          let e = how_many_next test n c.loop-i.i false l (sym c.counts.ensures ∙ w.if-counts.false) in
-          (omega (arith, w.counted-is, c.loop-i.invariant.0), omega (arith, w.counted-is, c.loop-i.invariant.1))
-    ]
-
-pub returns : goal.returns
-returns g c =
-    let test : ℕ → Bool = counts (g.C.Convention.tries c.args.convention.now) (map number_of c.args.days.now) (seen_schedule c.args.self.now) in
-    let n = length (seen_schedule c.args.self.now).days in
-    let e = how_many_none test n c.loop-i.i (omega (arith, c.count-i-end.ensures.is)) in
-    record { is = omega (arith, c.loop-i.invariant.0); bound = omega (arith, c.loop-i.invariant.1, c.count-i-end.ensures.bound) }
+    let n = c.count.result in
+    count_from_yields_List c.filter-counted.result c.count-2.result c.count-2.ensures.ran
+    (YieldsList-from_filter _ test (YieldsList-at c.filter-counted.ensures.source (YieldsList-from_range 0 n n refl (omega arith))) c.filter-counted.ensures.closure (λ x b q k. search (rules, tests)))
+    ∙ ap (λ (ns : List ℕ). length (filter test ns)) (in_order n 0)
+    ∙ how_many_pass test (upward n 0)
+    ∙ ap (λ (m : ℕ). how_many test (upward m 0)) c.count.ensures.is

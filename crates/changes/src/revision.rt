@@ -1,0 +1,62 @@
+ghost use Rattle.std.specs.Prelude.{◌≡◌, ℕ, ◌≤◌, map, length};
+ghost use Rattle.std.specs.Option.{option_map};
+ghost use Rattle.generation.specs.Schedules.{seen_schedule};
+ghost use Rattle.changes.specs.Changes.{seen_pair, altered_payment, changes_in, written, written_count, seen_change};
+ghost use Rattle.changes.specs.ChangeLaws.{ListedExactly};
+
+use crate::change::Change;
+use crate::turn::Turn;
+use calendars::Calendar;
+use generation::{Payment, Schedule};
+
+/// A schedule of a bond, and the one that takes its place.
+#[derive(Clone, Copy)]
+pub struct Revision<'a> {
+    pub old: &'a Schedule,
+    pub new: &'a Schedule,
+}
+
+impl Revision<'_> {
+    /// Payment k as it was and as it becomes, if both schedules have one and it alters.
+    fn altered(&self, k: u32) -> Option<(Payment, Payment)>
+        ensures { option_map seen_pair result ≡ altered_payment (seen_schedule self.now.old.now) (seen_schedule self.now.new.now) k }
+    {
+        let was = self.old.payment(u64::from(k))?;
+        let becomes = self.new.payment(u64::from(k))?;
+        (was != becomes).then_some((was, becomes))
+    }
+
+    /// How many payments alter.
+    pub fn count(&self) -> usize
+        ensures is { (before after : ℕ → ℕ) → result ≡ length (changes_in before after (seen_schedule self.now.old.now) (seen_schedule self.now.new.now)) }
+        ensures bound { result ≤ 99 }
+    {
+        (1..self.old.count())
+            .filter(|k| self.altered(*k).is_some())
+            .count()
+    }
+
+    /// Writes the payments that alter into a list, from its start; nothing if they do not fit.
+    pub fn write<K: Calendar, T: Calendar>(
+        &self,
+        turn: &Turn<'_, K, T>,
+        list: &mut [Change],
+    ) -> Option<usize>
+        ensures answer { result ≡ written_count (changes_in (K.Calendar.codes turn.now.before.now) (T.Calendar.codes turn.now.after.now) (seen_schedule self.now.old.now) (seen_schedule self.now.new.now)) (map seen_change list.old) }
+        ensures list { map seen_change list.new ≡ written (changes_in (K.Calendar.codes turn.now.before.now) (T.Calendar.codes turn.now.after.now) (seen_schedule self.now.old.now) (seen_schedule self.now.new.now)) (map seen_change list.old) }
+        ensures law { ListedExactly (K.Calendar.codes turn.now.before.now) (T.Calendar.codes turn.now.after.now) (seen_schedule self.now.old.now) (seen_schedule self.now.new.now) }
+    {
+        if self.count() > list.len() {
+            return None;
+        }
+        // By index: nothing is known of what is written through an adapter of `iter_mut`.
+        let mut n = 0;
+        for k in 1..self.old.count() {
+            if let Some((was, becomes)) = self.altered(k) {
+                list[n] = turn.change(self.old.number(), k, was, becomes);
+                n += 1;
+            }
+        }
+        Some(n)
+    }
+}
