@@ -48,7 +48,7 @@ impl<K: Calendar> AmendmentLayer<K> {
         ensures answer { told calendar_refusal result ≡ amend_answer (layer_now K.Calendar.codes self.old).rest day.0 }
         ensures after { layer_now K.Calendar.codes self.new ≡ if_granted (told calendar_refusal result) (amended (layer_now K.Calendar.codes self.old) day.0 code.value) (layer_now K.Calendar.codes self.old) }
     {
-        let day = day.checked()?;
+        day.checked()?;
         if let Ok(at) = self.find(day) {
             self.entries[at].code = code;
             return Ok(());
@@ -92,7 +92,7 @@ impl<K: Calendar> Amendable for AmendmentLayer<K> {
     }
 
     fn is_entered(&self, day: Day) -> Result<bool, CalendarFault> {
-        let day = day.checked()?;
+        day.checked()?;
         Ok(self.find(day).is_ok())
     }
 
@@ -113,7 +113,7 @@ impl<K: Calendar> Amendable for AmendmentLayer<K> {
     }
 
     fn restore(&mut self, day: Day) -> Result<(), CalendarFault> {
-        let day = day.checked()?;
+        day.checked()?;
         if !remove(&mut self.entries, self.count, u64::from(day.0)) {
             return Err(CalendarFault::NotEntered(day.0));
         }
