@@ -67,20 +67,20 @@ impl<P: Amendable> Amendable for DayCache<P> {
 
     // Three bodies of three lines: one that takes the call as a closure would be no shorter.
     fn close(&mut self, day: Day) -> Result<(), CalendarFault> {
-        let answer = self.lower.close(day);
+        self.lower.close(day)?;
         self.kept.refresh(&self.lower, day);
-        answer
+        Ok(())
     }
 
     fn open(&mut self, day: Day) -> Result<(), CalendarFault> {
-        let answer = self.lower.open(day);
+        self.lower.open(day)?;
         self.kept.refresh(&self.lower, day);
-        answer
+        Ok(())
     }
 
     fn restore(&mut self, day: Day) -> Result<(), CalendarFault> {
-        let answer = self.lower.restore(day);
+        self.lower.restore(day)?;
         self.kept.refresh(&self.lower, day);
-        answer
+        Ok(())
     }
 }
