@@ -34,6 +34,7 @@ pub trait Entry: Copy + Default {
 /// A calendar of up to `N` entries, added one at a time.
 #[derive(Drop)]
 pub struct Rule<E, const N: usize> {
+    // Fixed places and a count: a calendar takes no memory, so no call fails for want of it.
     entries: [E; N],
     count: usize,
     layer: Layer,
