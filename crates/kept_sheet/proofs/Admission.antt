@@ -1,11 +1,11 @@
 -- Which bonds may stand beside the live ones.
-use Rattle.std.proofs.Common.{◌≡◌, ℕ, ◌+◌, ◌<◌, ◌≤◌, Bool, true, false, cond, ltb, leb, List, [], ◌∷◌, length, Ok, Err, Result, sym, refl, ap, ◌∙◌, arith}
+use Rattle.std.proofs.Common.{◌≡◌, ℕ, ◌<◌, Bool, true, false, cond, leb, List, [], ◌∷◌, length, Ok, Err, Result, sym, refl, ap, ◌∙◌, arith}
 use Rattle.std.proofs.lemmas.Bool.Decides.{nat_tests}
 use Rattle.faults.specs.Refusals.{Refusal, refuse}
 use Rattle.tables.specs.Tables.{has}
 use Rattle.bonds.specs.declared.terms.Terms.{Terms}
 use Rattle.bonds.specs.Rolls.{rolls, rolls_answer}
-use Rattle.kept_sheet.specs.FreshSheets.{number, roll_total}
+use Rattle.kept_sheet.specs.FreshSheets.{number}
 use Rattle.kept_sheet.specs.Entries.{has_room, admitted}
 
 -- Terms whose number is k.
@@ -50,14 +50,6 @@ module _ (bonds : List Terms) (t : Terms) (k : ℕ) (named : k ≡ number t) whe
       pub may_stand : has_room bonds m ≡ true → Ok x ≡ admitted bonds t
       unfolding admitted
       may_stand h = let a = new in let f = few.0 in let r = room h in ap Ok few.1 ∙ rw (a, f, r) refl
-
--- room for one more bond is a matter of its rolls
-pub room_by_rolls : (bonds : List Terms) (total n : ℕ) → length bonds < 32 → total ≡ roll_total bonds → leb (total + n) 400 ≡ has_room bonds n
-room_by_rolls bonds total n l e = grind (arith, nat_tests)
-
--- there is no room for any
-pub no_room_for_any : (bonds : List Terms) (m n : ℕ) → 32 ≤ m → m ≡ length bonds → ltb m 32 ≡ has_room bonds n
-no_room_for_any bonds m n l e = grind (arith, nat_tests)
 
 -- what is known of terms that may stand
 pub record Stands (bonds : List Terms) (t : Terms) : Type 0 where

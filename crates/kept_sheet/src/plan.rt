@@ -32,6 +32,7 @@ pub(crate) fn counted<C: Convention>(
 }
 
 /// The places as they would be on a calendar that has changed on these days, or the refusal of the first failing roll.
+// The parts of a sheet and not the sheet: once a notice has changed the calendar, its places are not yet what generation gives.
 pub(crate) fn retry_places<K: Calendar, C: Convention>(
     places: [Option<Schedule>; 32],
     count: usize,
@@ -46,6 +47,7 @@ pub(crate) fn retry_places<K: Calendar, C: Convention>(
 {
     let mut anew = places;
     let live = &mut anew[..count];
+    // A test in the loop: of places that `iter_mut().flatten()` lends, a proof knows nothing afterwards.
     for place in live.iter_mut() {
         if let Some(schedule) = place {
             *schedule = schedule.retry(adjuster, days)?;

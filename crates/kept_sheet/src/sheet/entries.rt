@@ -32,6 +32,7 @@ fn roll_total(places: &[Option<Schedule>]) -> u32
 
 impl<P: Amendable, C: Convention> Sheet<P, C> {
     /// A sheet without bonds.
+    #[tactic(auto, unfolding(crate::specs::KeptBonds::kept, generation::specs::Granting::each_granted))]
     pub fn new(calendar: P, convention: C) -> Sheet<P, C>
         ensures sheet { seen_sheet result ≡ opened (meaning (P.Calendar.codes calendar) (P.Amendable.rest calendar)) }
         ensures convention { result.convention ≡ convention }
@@ -60,6 +61,7 @@ impl<P: Amendable, C: Convention> Sheet<P, C> {
     }
 
     /// Whether one more bond of so many rolls fits.
+    #[tactic(auto, using(std::proofs::lemmas::Bool::Decides::nat_tests, crate::proofs::KeptPlaces::length_bonds))]
     fn has_room(&self, rolls: u32) -> bool
         requires { rolls ≤ 100 }
         ensures { result ≡ has_room (bonds_of (kept_by self.now)) rolls }
