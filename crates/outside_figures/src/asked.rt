@@ -1,11 +1,8 @@
 use anyhow::anyhow;
 use bonds::{Bond, Rolls};
-use calendars::target_calendar;
-use conventions::{
-    Adjusted, Convention, Following, ModifiedFollowing, Preceding, Unadjusted, adjust,
-};
+use calendars::{Target, target_calendar};
+use conventions::{Adjuster, Convention, Following, ModifiedFollowing, Preceding, Unadjusted};
 use dates::Day;
-use faults::GenerationFault;
 use notation::{date_of, number_of};
 use std::alloc::Global;
 use std::fmt::Write;
@@ -19,11 +16,18 @@ fn write_date(out: &mut String, day: Day) -> anyhow::Result<()> {
     Ok(())
 }
 
-fn write_adjusted(
+/// Writes the adjusted day of a date under a convention.
+fn write_adjusted<C: Convention>(
     out: &mut String,
-    adjusted: Result<Adjusted, GenerationFault>,
+    target: &Target,
+    convention: &C,
+    u: Unadjusted,
 ) -> anyhow::Result<()> {
-    match adjusted {
+    let adjuster = Adjuster {
+        calendar: target,
+        convention,
+    };
+    match adjuster.adjust(u) {
         Ok(day) => write_date(out, day.day()),
         Err(_) => Err(anyhow!("no adjusted day")),
     }
@@ -49,9 +53,9 @@ fn write_adjusted_days(out: &mut String, date: &str) -> anyhow::Result<()> {
         return Err(anyhow!("no calendar"));
     };
     let u = Unadjusted(read_date(date)?.0);
-    write_adjusted(out, adjust(&target, &Following, u))?;
-    write_adjusted(out, adjust(&target, &Preceding, u))?;
-    write_adjusted(out, adjust(&target, &ModifiedFollowing, u))
+    write_adjusted(out, &target, &Following, u)?;
+    write_adjusted(out, &target, &Preceding, u)?;
+    write_adjusted(out, &target, &ModifiedFollowing, u)
 }
 
 /// The rolls of a bond of these terms.

@@ -2,7 +2,7 @@ use crate::call::{Answer, Call};
 use crate::sheet::{MOST_BONDS, MOST_ROLLS, Sheet};
 use bonds::{Bond, Rolls};
 use calendars::Calendar;
-use conventions::Convention;
+use conventions::{Adjuster, Convention};
 use faults::{Fault, SheetFault};
 use generation::bond_roll;
 
@@ -30,8 +30,12 @@ impl<K: Calendar, C: Convention> Sheet<K, C> {
 
     /// Generates every roll of a bond; the first that fails is named.
     fn try_rolls(&self, rolls: &Rolls) -> Result<(), Fault> {
+        let adjuster = Adjuster {
+            calendar: &self.calendar,
+            convention: &self.convention,
+        };
         for i in 0..rolls.count() {
-            if let Some(roll) = bond_roll(&self.calendar, &self.convention, rolls, i) {
+            if let Some(roll) = bond_roll(&adjuster, rolls, i) {
                 let _ = roll?;
             }
         }
