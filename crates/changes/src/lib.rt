@@ -3,7 +3,9 @@
 #![tactic(auto)]
 
 mod change;
-mod listing;
+mod revision;
+mod turn;
 
 pub use change::Change;
-pub use listing::{count_changes, write_changes};
+pub use revision::Revision;
+pub use turn::Turn;

@@ -31,9 +31,8 @@ impl Revision<'_> {
         ensures is { (before after : ℕ → ℕ) → result ≡ length (changes_in before after (seen_schedule self.now.old.now) (seen_schedule self.now.new.now)) }
         ensures bound { result ≤ 99 }
     {
-        (1..self.old.count())
-            .filter(|k| self.altered(*k).is_some())
-            .count()
+        let altered = (1..self.old.count()).filter(|k| self.altered(*k).is_some());
+        altered.count()
     }
 
     /// Writes the payments that alter into a list, from its start; nothing if they do not fit.

@@ -23,13 +23,7 @@ fn code_of<K: Calendar>(calendar: &K, day: Day) -> u8
 
 impl<K: Calendar, T: Calendar> Turn<'_, K, T> {
     /// A payment that alters, with the codes of its dates.
-    pub(crate) fn change(
-        &self,
-        bond: u32,
-        payment: u32,
-        was: Payment,
-        becomes: Payment,
-    ) -> Change
+    pub(crate) fn change(&self, bond: u32, payment: u32, was: Payment, becomes: Payment) -> Change
         ensures { seen_change result ≡ alteration (K.Calendar.codes self.now.before.now) (T.Calendar.codes self.now.after.now) bond payment (seen_pair (was, becomes)) }
     {
         Change {

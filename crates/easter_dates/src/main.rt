@@ -3,14 +3,13 @@
 
 #![tactic(auto)]
 
-use anyhow::anyhow;
+use anyhow::Context;
 use dates::easter_sunday;
 
 fn main(rt: HostRuntime) -> anyhow::Result<()> {
     for year in 1900..=2199 {
-        let date = easter_sunday(year)
-            .and_then(|day| day.civil_date())
-            .map_err(|fault| anyhow!("refusal {}", fault.number()))?;
+        let day = easter_sunday(year).ok().context("no Easter")?;
+        let date = day.civil_date().ok().context("no such day")?;
         println!(rt; "{date}")?;
     }
     Ok(())

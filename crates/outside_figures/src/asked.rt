@@ -1,34 +1,32 @@
-use anyhow::{Context, anyhow, bail};
+use anyhow::{Context, bail};
 use bonds::Bond;
-use calendars::target_calendar;
-use conventions::{
-    Adjusted, Convention, Following, ModifiedFollowing, Preceding, Unadjusted, adjust,
-};
+use calendars::{Target, target_calendar};
+use conventions::{Adjuster, Convention, Following, ModifiedFollowing, Preceding, Unadjusted};
 use dates::Day;
-use faults::{Fault, GenerationFault};
 use notation::{date_of, number_of};
 use std::alloc::Global;
 use std::fmt::Write;
 
-/// A refusal, as the program ends with it.
-fn refused<F: Into<Fault>>(fault: F) -> anyhow::Error {
-    let fault: Fault = fault.into();
-    anyhow!("refusal {}", fault.number())
-}
-
 /// Writes a space and a day's civil date.
 fn write_date(out: &mut String, day: Day) -> anyhow::Result<()> {
-    let date = day.civil_date().map_err(refused)?;
+    let date = day.civil_date().ok().context("no such day")?;
     write!(out, " {date}")?;
     Ok(())
 }
 
-/// Writes an adjusted day.
-fn write_adjusted(
+/// Writes the adjusted day of a date under a convention.
+fn write_adjusted<C: Convention>(
     out: &mut String,
-    adjusted: Result<Adjusted, GenerationFault>,
+    target: &Target,
+    convention: &C,
+    u: Unadjusted,
 ) -> anyhow::Result<()> {
-    write_date(out, adjusted.map_err(refused)?.day())
+    let adjuster = Adjuster {
+        calendar: target,
+        convention,
+    };
+    let adjusted = adjuster.adjust(u).ok().context("no adjusted day")?;
+    write_date(out, adjusted.day())
 }
 
 fn read_date(word: &str) -> anyhow::Result<Day> {
@@ -41,17 +39,17 @@ fn read_number(word: &str) -> anyhow::Result<u64> {
 
 /// Writes the adjusted days of a date under F, P and M.
 fn write_adjusted_days(out: &mut String, date: &str) -> anyhow::Result<()> {
-    let target = target_calendar().map_err(refused)?;
+    let target = target_calendar().ok().context("no calendar")?;
     let u = Unadjusted(read_date(date)?.0);
-    write_adjusted(out, adjust(&target, &Following, u))?;
-    write_adjusted(out, adjust(&target, &Preceding, u))?;
-    write_adjusted(out, adjust(&target, &ModifiedFollowing, u))
+    write_adjusted(out, &target, &Following, u)?;
+    write_adjusted(out, &target, &Preceding, u)?;
+    write_adjusted(out, &target, &ModifiedFollowing, u)
 }
 
 /// Writes the unadjusted rolls of a bond.
 fn write_rolls(out: &mut String, bond: &Bond) -> anyhow::Result<()> {
-    let terms = bond.terms().map_err(refused)?;
-    let rolls = terms.rolls().map_err(refused)?;
+    let terms = bond.terms().ok().context("out of range")?;
+    let rolls = terms.rolls().ok().context("too many rolls")?;
     out.push(':')?;
     for u in (0..rolls.count()).filter_map(|i| rolls.day(i)) {
         write_date(out, Day(u.0))?;

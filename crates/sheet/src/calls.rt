@@ -2,7 +2,7 @@ use crate::call::{Answer, Call};
 use crate::sheet::{MOST_BONDS, MOST_ROLLS, Sheet};
 use bonds::Bond;
 use calendars::Calendar;
-use conventions::Convention;
+use conventions::{Adjuster, Convention};
 use faults::{Fault, SheetFault};
 use generation::Schedule;
 
@@ -34,8 +34,12 @@ impl<K: Calendar, C: Convention> Sheet<K, C> {
         if self.count >= MOST_BONDS || count > MOST_ROLLS - self.rolls {
             return Err(SheetFault::SheetFull(bond.number).into());
         }
+        let adjuster = Adjuster {
+            calendar: &self.calendar,
+            convention: &self.convention,
+        };
         // Each roll has to come out on this calendar, and the first that does not is named.
-        let _ = Schedule::generate(&self.calendar, &self.convention, rolls)?;
+        let _ = Schedule::generate(&adjuster, rolls)?;
         self.numbers[self.count] = bond.number;
         self.count += 1;
         self.rolls += count;

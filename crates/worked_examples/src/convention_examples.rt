@@ -1,5 +1,5 @@
 use calendars::{Weekly, target_calendar};
-use conventions::{Convention, Following, ModifiedFollowing, Preceding, Unadjusted, adjust};
+use conventions::{Adjuster, Convention, Following, ModifiedFollowing, Preceding, Unadjusted};
 use dates::Day;
 use faults::{GenerationFault, RollAt};
 use generation::fixing_before;
@@ -11,12 +11,21 @@ const EASTER: Unadjusted = Unadjusted(45_380);
 #[test]
 fn easter_sunday_adjusted(rt: HostRuntime) -> Result<(), Fail> {
     let target = target_calendar()?;
-    assert_eq!(rt;
-        adjust(&target, &ModifiedFollowing, EASTER)?.day(),
-        Day(45_377)
-    );
-    assert_eq!(rt; adjust(&target, &Following, EASTER)?.day(), Day(45_382));
-    assert_eq!(rt; adjust(&target, &Preceding, EASTER)?.day(), Day(45_377));
+    let modified = Adjuster {
+        calendar: &target,
+        convention: &ModifiedFollowing,
+    };
+    let following = Adjuster {
+        calendar: &target,
+        convention: &Following,
+    };
+    let preceding = Adjuster {
+        calendar: &target,
+        convention: &Preceding,
+    };
+    assert_eq!(rt; modified.adjust(EASTER)?.day(), Day(45_377));
+    assert_eq!(rt; following.adjust(EASTER)?.day(), Day(45_382));
+    assert_eq!(rt; preceding.adjust(EASTER)?.day(), Day(45_377));
     Ok(())
 }
 
@@ -58,7 +67,11 @@ fn letters_and_reach(rt: HostRuntime) {
 #[test]
 fn nothing_good(rt: HostRuntime) -> Result<(), Fail> {
     let closed = Weekly::new([true; 7], 1);
-    match adjust(&closed, &ModifiedFollowing, EASTER) {
+    let adjuster = Adjuster {
+        calendar: &closed,
+        convention: &ModifiedFollowing,
+    };
+    match adjuster.adjust(EASTER) {
         Ok(_) => Err(Fail::new("a good day")),
         Err(fault) => {
             assert_eq!(rt;
@@ -77,11 +90,19 @@ fn nothing_good(rt: HostRuntime) -> Result<(), Fail> {
 #[test]
 fn fixings(rt: HostRuntime) -> Result<(), Fail> {
     let target = target_calendar()?;
-    let tuesday = adjust(&target, &Following, EASTER)?;
+    let on_target = Adjuster {
+        calendar: &target,
+        convention: &Following,
+    };
+    let tuesday = on_target.adjust(EASTER)?;
     assert_eq!(rt; fixing_before(&target, tuesday, 1), Some(Day(45_377)));
     assert_eq!(rt; fixing_before(&target, tuesday, 2), Some(Day(45_376)));
     let mondays = Weekly::new([false, true, true, true, true, true, true], 1);
-    let monday = adjust(&mondays, &Following, EASTER)?;
+    let on_mondays = Adjuster {
+        calendar: &mondays,
+        convention: &Following,
+    };
+    let monday = on_mondays.adjust(EASTER)?;
     assert_eq!(rt; fixing_before(&mondays, monday, 8), Some(Day(45_381 - 56)));
     assert_eq!(rt; fixing_before(&mondays, monday, 9), None);
     Ok(())

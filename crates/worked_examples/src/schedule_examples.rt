@@ -1,6 +1,6 @@
 use bonds::{Bond, Rolls};
 use calendars::Listed;
-use conventions::{Convention, Following};
+use conventions::{Adjuster, Following};
 use dates::Day;
 use faults::{GenerationFault, RollAt};
 use generation::Schedule;
@@ -38,7 +38,11 @@ fn days_from(first: u32) -> [Day; 65] {
 fn check_refused(rt: &impl Abort, closed: &[Day], fault: GenerationFault) -> Result<(), Fail> {
     let mut listed = Listed::new(4);
     listed.replace(closed)?;
-    match Schedule::generate(&listed, &Following, monthly_rolls()?) {
+    let adjuster = Adjuster {
+        calendar: &listed,
+        convention: &Following,
+    };
+    match Schedule::generate(&adjuster, monthly_rolls()?) {
         Ok(_) => Err(Fail::new("granted")),
         Err(refused) => {
             assert_eq!(rt; refused, fault);
@@ -74,7 +78,11 @@ fn first_failing_roll_is_refused(rt: HostRuntime) -> Result<(), Fail> {
 #[test]
 fn schedule_of_good_days(rt: HostRuntime) -> Result<(), Fail> {
     let open = Listed::new(4);
-    let schedule = Schedule::generate(&open, &Following, monthly_rolls()?)?;
+    let adjuster = Adjuster {
+        calendar: &open,
+        convention: &Following,
+    };
+    let schedule = Schedule::generate(&adjuster, monthly_rolls()?)?;
     assert_eq!(rt; schedule.number(), 31);
     assert_eq!(rt; schedule.count(), 7);
     assert!(rt; schedule.payment(0).is_none());
