@@ -24,10 +24,10 @@ module _ (before after : ℕ → ℕ) (x y : Scheduled) where
   -- for no payments
   exact_none : (s : ℕ) → Exact 0 s []
   exact_none s = record {
-    only = λ i d l. absurd (let w : ⊥ = omega arith in w);
-    all = λ k p l m e. absurd (let w : ⊥ = omega arith in w);
-    low = λ i d l. absurd (let w : ⊥ = omega arith in w);
-    rising = λ i j d l m. absurd (let w : ⊥ = omega arith in w);
+    only = λ i d l. absurd (omega arith);
+    all = λ k p l m e. absurd (omega arith);
+    low = λ i d l. absurd (omega arith);
+    rising = λ i j d l m. absurd (omega arith);
   }
 
   -- payment s did not alter
@@ -40,7 +40,7 @@ module _ (before after : ℕ → ℕ) (x y : Scheduled) where
   }
     where
       below : {p : Due × Due} (k : ℕ) → (k ≡ s) ⊎ (k ≡ s → ⊥) → s ≤ k → Some p ≡ altered_payment x y k → s + 1 ≤ k
-      below k (inl h) l f = let g = f ∙ ap (altered_payment x y) h in let z : ◌≡◌ {A = ℕ} 0 1 = cc in absurd (let w : ⊥ = omega arith in w)
+      below k (inl h) l f = let g = f ∙ ap (altered_payment x y) h in absurd (grind arith)
       below k (inr h) l f = omega arith
 
   -- the change of payment s before others
@@ -66,7 +66,7 @@ module _ (before after : ℕ → ℕ) (x y : Scheduled) where
 
       rising : (i j : ℕ) (d : Altered) → i < j → j < suc (length rest)
           → (get_or (one_more s p rest) i d).payment < (get_or (one_more s p rest) j d).payment
-      rising i zero d l m = absurd (let w : ⊥ = omega arith in w)
+      rising i zero d l m = absurd (omega arith)
       rising zero (suc j) d l m = omega (arith, r.low j d (omega arith))
       rising (suc i) (suc j) d l m = r.rising i j d (omega arith) (omega arith)
 

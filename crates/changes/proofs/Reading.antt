@@ -24,11 +24,11 @@ stands x k p e = go (leb 1 k && ltb k (length x.days)) refl e
         let h = and_parts (leb 1 k) (ltb k (length x.days)) t in
         let q : payment_of x.terms.face x.terms.rate (roll_in x (k - 1)) (roll_in x k) ≡ p = cc in
         record { from_one = leb-true 1 k h.0; inside = ltb-true k (length x.days) h.1; due = ap (λ (d : Due). d.date) q }
-    go false t s = let z : ◌≡◌ {A = ℕ} 0 1 = cc in absurd (let w : ⊥ = omega arith in w)
+    go false t s = absurd (grind arith)
 
 -- the adjusted day of a roll is never late
 rolls_known : (rs : List Roll) (i : ℕ) (e : RollDays) → i < length (map seen_roll rs) → (get_or (map seen_roll rs) i e).adjusted ≤ 109572
-rolls_known [] i e l = absurd (let w : ⊥ = omega arith in w)
+rolls_known [] i e l = absurd (omega arith)
 rolls_known (r ∷ rs) zero e l = omega (arith, r.adjusted.within.1)
 rolls_known (r ∷ rs) (suc i) e l = rolls_known rs i e (omega arith)
 
@@ -49,7 +49,7 @@ unfolding altered_payment
 pair_of x y k p e = go (payment_at x k) refl (payment_at y k) refl e
   where
     pick : (u v : Due) (b : Bool) → same_due u v ≡ b → payment_at x k ≡ Some u → payment_at y k ≡ Some v → Some p ≡ cond b None (Some (u, v)) → AlteredPair x y k p
-    pick u v true s f g q = let z : ◌≡◌ {A = ℕ} 0 1 = cc in absurd (let w : ⊥ = omega arith in w)
+    pick u v true s f g q = absurd (grind arith)
     pick u v false s f g q =
         let r : (u, v) ≡ p = cc in
         record {
@@ -59,6 +59,6 @@ pair_of x y k p e = go (payment_at x k) refl (payment_at y k) refl e
         }
 
     go : (o : Option Due) → payment_at x k ≡ o → (u : Option Due) → payment_at y k ≡ u → Some p ≡ differing o u → AlteredPair x y k p
-    go None f u g q = let z : ◌≡◌ {A = ℕ} 0 1 = cc in absurd (let w : ⊥ = omega arith in w)
-    go (Some a) f None g q = let z : ◌≡◌ {A = ℕ} 0 1 = cc in absurd (let w : ⊥ = omega arith in w)
+    go None f u g q = absurd (grind arith)
+    go (Some a) f None g q = absurd (grind arith)
     go (Some a) f (Some b) g q = pick a b (same_due a b) refl f g q

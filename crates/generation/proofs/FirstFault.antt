@@ -11,12 +11,12 @@ use Rattle.generation.proofs.Granted.{all_were_granted, first_was_refused}
 module _ (good : ℕ → Bool) (tries : ℕ → List ℕ) (t : Terms) where
   -- the rolls of a schedule that was granted
   pub its_rolls : (s : Scheduled) (r : Result (List RollDays) Refusal) → scheduled t r ≡ Ok s → r ≡ Ok s.days
-  its_rolls s (Err e) p = let z : ◌≡◌ {A = ℕ} 0 1 = cc in absurd (let w : ⊥ = omega arith in w)
+  its_rolls s (Err e) p = absurd (grind arith)
   its_rolls s (Ok days) p = let z : record { terms = t; days = days } ≡ s = cc in ap (λ (x : Scheduled). Ok x.days) z
 
   its_refusal : (e : Refusal) (r : Result (List RollDays) Refusal) → scheduled t r ≡ Err e → r ≡ Err e
   its_refusal e (Err u) p = let z : u ≡ e = cc in ap Err z
-  its_refusal e (Ok days) p = let z : ◌≡◌ {A = ℕ} 0 1 = cc in absurd (let w : ⊥ = omega arith in w)
+  its_refusal e (Ok days) p = absurd (grind arith)
 
   pub first_fault : FirstFault good tries t
   first_fault = record { granted = granted; refused = refused }

@@ -98,22 +98,22 @@ module _ {A : Type 0} (f : ℕ → Result A Refusal) where
 
   pub all_were_granted : (n i : ℕ) (ys : List A) → each_granted f (upward n i) ≡ Ok ys → Each f i n ys
   unfolding each_granted upward
-  all_were_granted zero i ys e = let z : ys ≡ [] = cc in rw z (record { many = refl; each = λ k d l. absurd (let w : ⊥ = omega arith in w) })
+  all_were_granted zero i ys e = let z : ys ≡ [] = cc in rw z (record { many = refl; each = λ k d l. absurd (omega arith) })
   all_were_granted (suc n) i ys e = go (all_were_granted n (i + 1)) (f i) refl (each_granted f (upward n (i + 1))) refl e
     where
       go : ((zs : List A) → each_granted f (upward n (i + 1)) ≡ Ok zs → Each f (i + 1) n zs)
           → (x : Result A Refusal) → f i ≡ x → (r : Result (List A) Refusal) → each_granted f (upward n (i + 1)) ≡ r → followed x r ≡ Ok ys → Each f i (suc n) ys
-      go more (Err u) p r q s = let z : ◌≡◌ {A = ℕ} 0 1 = cc in absurd (let w : ⊥ = omega arith in w)
-      go more (Ok a) p (Err u) q s = let z : ◌≡◌ {A = ℕ} 0 1 = cc in absurd (let w : ⊥ = omega arith in w)
+      go more (Err u) p r q s = absurd (grind arith)
+      go more (Ok a) p (Err u) q s = absurd (grind arith)
       go more (Ok a) p (Ok rest) q s = let z : ys ≡ a ∷ rest = cc in rw z (each_more i n a rest p (more rest q))
 
   pub first_was_refused : (n i : ℕ) (e : Refusal) → each_granted f (upward n i) ≡ Err e → First f i n e
   unfolding each_granted upward
-  first_was_refused zero i e s = let z : ◌≡◌ {A = ℕ} 0 1 = cc in absurd (let w : ⊥ = omega arith in w)
+  first_was_refused zero i e s = absurd (grind arith)
   first_was_refused (suc n) i e s = go (first_was_refused n (i + 1)) (f i) refl (each_granted f (upward n (i + 1))) refl s
     where
       go : ((u : Refusal) → each_granted f (upward n (i + 1)) ≡ Err u → First f (i + 1) n u)
           → (x : Result A Refusal) → f i ≡ x → (r : Result (List A) Refusal) → each_granted f (upward n (i + 1)) ≡ r → followed x r ≡ Err e → First f i (suc n) e
-      go more (Err u) p r q t = let z : u ≡ e = cc in record { place = 0; inside = omega arith; here = ap f (omega arith) ∙ p ∙ ap Err z; before = λ j l. absurd (let w : ⊥ = omega arith in w) }
+      go more (Err u) p r q t = let z : u ≡ e = cc in record { place = 0; inside = omega arith; here = ap f (omega arith) ∙ p ∙ ap Err z; before = λ j l. absurd (omega arith) }
       go more (Ok a) p (Err u) q t = let z : u ≡ e = cc in first_more i n a e p (more e (q ∙ ap Err z))
-      go more (Ok a) p (Ok rest) q t = let z : ◌≡◌ {A = ℕ} 0 1 = cc in absurd (let w : ⊥ = omega arith in w)
+      go more (Ok a) p (Ok rest) q t = absurd (grind arith)

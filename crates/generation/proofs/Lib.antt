@@ -9,4 +9,4 @@ pub mod Granted
 pub mod FirstFault
 pub mod ScheduleLengths
 pub mod Retried
-pub mod Placed
+pub mod InPlace

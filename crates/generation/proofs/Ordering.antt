@@ -13,11 +13,11 @@ use Rattle.generation.specs.BondRolls.{generated, NeverBackward}
 
 -- a roll that was generated has the first good day tried as its adjusted day
 found : (good : ℕ → Bool) (names : List ℕ) (lag : ℕ) (o : Option ℕ) (a : RollDays) → adjusted_roll good names lag o ≡ Ok a → o ≡ Some a.adjusted
-found good names lag None a e = let z : ◌≡◌ {A = ℕ} 0 1 = cc in absurd (let w : ⊥ = omega arith in w)
+found good names lag None a e = absurd (grind arith)
 found good names lag (Some day) a e = go (eqb lag 0) e
   where
     fix : (f : Option ℕ) → fixed_roll names day f ≡ Ok a → Some day ≡ Some a.adjusted
-    fix None s = let z : ◌≡◌ {A = ℕ} 0 1 = cc in absurd (let w : ⊥ = omega arith in w)
+    fix None s = absurd (grind arith)
     fix (Some f) s = let p : record { adjusted = day; fixing = Some f } ≡ a = cc in ap (λ (x : RollDays). Some x.adjusted) p
 
     go : (b : Bool) → cond b (Ok (record { adjusted = day; fixing = None })) (fixed_roll names day (fixing good day lag)) ≡ Ok a → Some day ≡ Some a.adjusted
@@ -45,13 +45,13 @@ granted good tries t i a e = go (ltb i (length (rolls t))) refl e
       serves = (grind (arith, nat_tests), grind (arith, nat_tests));
       first = found good (t.number ∷ i ∷ get_or (rolls t) i 0 ∷ []) (lag_of t i) (first_good good (tries (get_or (rolls t) i 0))) a f;
     }
-    day p false s f = let z : ◌≡◌ {A = ℕ} 0 1 = cc in absurd (let w : ⊥ = omega arith in w)
+    day p false s f = absurd (grind arith)
 
     go : (b : Bool) → ltb i (length (rolls t)) ≡ b
         → cond b (Some (roll_answer good tries (get_or (rolls t) i 0) (lag_of t i) (t.number ∷ i ∷ get_or (rolls t) i 0 ∷ []))) None ≡ Some (Ok a) → Granted good tries t i a
     go true l s = let f : roll_answer good tries (get_or (rolls t) i 0) (lag_of t i) (t.number ∷ i ∷ get_or (rolls t) i 0 ∷ []) ≡ Ok a = cc in
         day (ltb-true i (length (rolls t)) l) (served (get_or (rolls t) i 0)) refl f
-    go false l s = let z : ◌≡◌ {A = ℕ} 0 1 = cc in absurd (let w : ⊥ = omega arith in w)
+    go false l s = absurd (grind arith)
 
 -- a later roll is not an earlier day
 later_roll : (t : Terms) (i j : ℕ) → i ≤ j → j < length (rolls t) → get_or (rolls t) i 0 ≤ get_or (rolls t) j 0

@@ -48,7 +48,7 @@ module _ (good other : ℕ → Bool) (tries : ℕ → List ℕ) (days : List ℕ
       go true s =
           footing_holds good other (get_or (rolls x.terms) i 0) (tries (get_or (rolls x.terms) i 0)) (lag_of x.terms i) (x.terms.number ∷ i ∷ get_or (rolls x.terms) i 0 ∷ []) (roll_in x i) s
           (λ d h. same d (none_inside (footing (get_or (rolls x.terms) i 0) (tries (get_or (rolls x.terms) i 0)) (roll_in x i)) days d c h))
-      go false s = let z : ◌≡◌ {A = ℕ} 0 1 = cc in absurd (let w : ⊥ = omega arith in w)
+      go false s = absurd (grind arith)
 
   -- tried anew or left, it is the roll that is generated afresh
   anew : (x : Scheduled) (i : ℕ) → bond_roll good tries x.terms i ≡ Ok (roll_in x i) → retried_roll other tries days x i ≡ bond_roll other tries x.terms i
@@ -69,15 +69,6 @@ module _ (good other : ℕ → Bool) (tries : ℕ → List ℕ) (days : List ℕ
 
 pub retry_suffices : (good : ℕ → Bool) (tries : ℕ → List ℕ) (days : List ℕ) (x : Scheduled) → RetrySuffices good tries days x
 retry_suffices good tries days x before same e = retry_is_afresh before good tries days same x e
-
-module _ (good : ℕ → Bool) (tries : ℕ → List ℕ) (days : List ℕ) (x : Scheduled) (i : ℕ) where
-  -- a roll that counts is tried anew
-  pub when_counted : counts tries days x i ≡ true → bond_roll good tries x.terms i ≡ retried_roll good tries days x i
-  when_counted e = ap (λ (b : Bool). cond b (bond_roll good tries x.terms i) (Ok (roll_in x i))) (sym e)
-
-  -- any other stays
-  pub when_not_counted : counts tries days x i ≡ false → Ok (roll_in x i) ≡ retried_roll good tries days x i
-  when_not_counted e = ap (λ (b : Bool). cond b (bond_roll good tries x.terms i) (Ok (roll_in x i))) (sym e)
 
 -- those that pass a test are as many as pass it
 pub how_many_pass : (test : ℕ → Bool) (ns : List ℕ) → length (filter test ns) ≡ how_many test ns

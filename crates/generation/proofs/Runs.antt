@@ -17,7 +17,7 @@ up_to_front a (d ∷ ds) = ap (λ (xs : List ℕ). d ∷ xs) (go (eqb d a) (up_t
 -- they begin with the first
 up_to_first : (u a : ℕ) (ds : List ℕ) → take 1 ds ≡ u ∷ [] → Among u (up_to a ds)
 unfolding up_to
-up_to_first u a [] e = let z : ◌≡◌ {A = ℕ} 0 1 = cc in absurd (let w : ⊥ = omega arith in w)
+up_to_first u a [] e = absurd (grind arith)
 up_to_first u a (d ∷ ds) e = let f : d ≡ u = cc in (0, omega arith, f)
 
 -- a bound of all days is one of the lowest and of the highest

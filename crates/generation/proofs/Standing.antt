@@ -18,7 +18,7 @@ highest_above u (d ∷ ds) = omega (arith, highest_above (max u d) ds)
 
 pub is_good : (good : ℕ → Bool) (ds : List ℕ) (a : ℕ) → first_good good ds ≡ Some a → good a ≡ true
 unfolding first_good
-is_good good [] a e = let z : ◌≡◌ {A = ℕ} 0 1 = cc in absurd (let w : ⊥ = omega arith in w)
+is_good good [] a e = absurd (grind arith)
 is_good good (d ∷ ds) a e = go (good d) refl e (is_good good ds a)
   where
     go : (b : Bool) → good d ≡ b → cond b (Some d) (first_good good ds) ≡ Some a → (first_good good ds ≡ Some a → good a ≡ true) → good a ≡ true
@@ -54,7 +54,7 @@ highest_more u d ds = refl
 pub same_found : (good other : ℕ → Bool) (u v : ℕ) (ds : List ℕ) (a : ℕ) → first_good good ds ≡ Some a
     → Agree good other (lowest u (up_to a ds)) (highest v (up_to a ds)) → first_good other ds ≡ Some a
 unfolding first_good
-same_found good other u v [] a e h = let z : ◌≡◌ {A = ℕ} 0 1 = cc in absurd (let w : ⊥ = omega arith in w)
+same_found good other u v [] a e h = absurd (grind arith)
 same_found good other u v (d ∷ ds) a e h = go (good d) refl e (same_found good other (min u d) (max v d) ds a)
   where
     here : good d ≡ other d
@@ -73,7 +73,7 @@ same_found good other u v (d ∷ ds) a e h = go (good d) refl e (same_found good
 -- it is not above the highest
 pub below_highest : (good : ℕ → Bool) (v : ℕ) (ds : List ℕ) (a : ℕ) → first_good good ds ≡ Some a → a ≤ highest v (up_to a ds)
 unfolding first_good
-below_highest good v [] a e = let z : ◌≡◌ {A = ℕ} 0 1 = cc in absurd (let w : ⊥ = omega arith in w)
+below_highest good v [] a e = absurd (grind arith)
 below_highest good v (d ∷ ds) a e = go (good d) refl e (below_highest good (max v d) ds a)
   where
     go : (b : Bool) → good d ≡ b → cond b (Some d) (first_good good ds) ≡ Some a
@@ -87,7 +87,7 @@ below_highest good v (d ∷ ds) a e = go (good d) refl e (below_highest good (ma
 -- the fixing is before the day, and the same if the days from it on agree
 pub fixed_below : (good : ℕ → Bool) (w day n f : ℕ) → nth_back good w day n ≡ Some f → f ≤ day - 1
 unfolding nth_back
-fixed_below good zero day n f e = let z : ◌≡◌ {A = ℕ} 0 1 = cc in absurd (let w : ⊥ = omega arith in w)
+fixed_below good zero day n f e = absurd (grind arith)
 fixed_below good (suc w) day n f e = go (good (day - 1)) (eqb n 1) e (fixed_below good w (day - 1) (n - 1) f) (fixed_below good w (day - 1) n f)
   where
     go : (b c : Bool) → cond b (cond c (Some (day - 1)) (nth_back good w (day - 1) (n - 1))) (nth_back good w (day - 1) n) ≡ Some f
@@ -98,7 +98,7 @@ fixed_below good (suc w) day n f e = go (good (day - 1)) (eqb n 1) e (fixed_belo
 
 pub same_fixing : (good other : ℕ → Bool) (w day n f : ℕ) → nth_back good w day n ≡ Some f → Agree good other f day → nth_back other w day n ≡ Some f
 unfolding nth_back
-same_fixing good other zero day n f e h = let z : ◌≡◌ {A = ℕ} 0 1 = cc in absurd (let w : ⊥ = omega arith in w)
+same_fixing good other zero day n f e h = absurd (grind arith)
 same_fixing good other (suc w) day n f e h =
     let l = fixed_below good (suc w) day n f e in
     let h2 : Agree good other f (day - 1) = λ d p q. h d p (omega arith) in
@@ -137,7 +137,7 @@ footing_holds good other u ds lag names r e same = go (first_good good ds) refl 
     at x s = let p : r ≡ x = cc in subst (λ (y : RollDays). AgreeOn good other u ds y) p h
 
     last : (a : ℕ) → first_good good ds ≡ Some a → eqb lag 0 ≡ false → (o : Option ℕ) → fixing good a lag ≡ o → fixed_roll names a o ≡ Ok r → roll_of other ds lag names ≡ Ok r
-    last a fa b None q s = let z : ◌≡◌ {A = ℕ} 0 1 = cc in absurd (let w : ⊥ = omega arith in w)
+    last a fa b None q s = absurd (grind arith)
     last a fa b (Some f) q s = fixed good other u ds lag names a f fa b q (at _ s) ∙ s
 
     day : (a : ℕ) → first_good good ds ≡ Some a → (b : Bool) → eqb lag 0 ≡ b
@@ -146,5 +146,5 @@ footing_holds good other u ds lag names r e same = go (first_good good ds) refl 
     day a fa false b s = last a fa b (fixing good a lag) refl s
 
     go : (o : Option ℕ) → first_good good ds ≡ o → adjusted_roll good names lag o ≡ Ok r → roll_of other ds lag names ≡ Ok r
-    go None fa s = let z : ◌≡◌ {A = ℕ} 0 1 = cc in absurd (let w : ⊥ = omega arith in w)
+    go None fa s = absurd (grind arith)
     go (Some a) fa s = day a fa (eqb lag 0) refl s

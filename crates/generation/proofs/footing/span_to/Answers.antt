@@ -1,12 +1,9 @@
-use Rattle.std.proofs.Common.{ℕ, ◌<◌, List, length, sym, refl, ◌∙◌, arith, rules}
+use Rattle.std.proofs.Common.{ℕ, ◌<◌, List, length, sym, ◌∙◌, arith, rules}
 use Rattle.conventions.proofs.Scanning.{tried}
 use Rattle.generation.specs.Views.{seen_footing}
 use Rattle.generation.proofs.Tried.{count_served, count_is, served_answer}
 use Rattle.generation.proofs.Spans.{at_next, at_end, run_out}
 use Rattle.generation.proofs.footing.span_to.Goals as goal
-
-pub loop-k-init : goal.loop-k-init
-loop-k-init g c = refl
 
 pub returns-then-eq : goal.returns-then-eq
 returns-then-eq g c =
