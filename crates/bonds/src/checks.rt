@@ -8,7 +8,14 @@ ghost use Rattle.bonds.specs.TermsOf.{terms_answer};
 use crate::bond::Bond;
 use crate::stub::Stub;
 use crate::terms::Terms;
+use dates::Day;
 use faults::SheetFault;
+
+/// The first day that a bond's terms may have, 1 January 1901.
+const FIRST: Day = Day(365);
+
+/// The last, 31 December 2198.
+const LAST: Day = Day(109_207);
 
 /// The greatest fixing lag.
 const MOST_LAG: u64 = 10;
@@ -30,7 +37,7 @@ impl Bond {
     fn is_in_order(&self) -> bool
         ensures { result ≡ in_order self.now }
     {
-        365 <= self.effective.0 && self.maturity.0 <= 109_207 && self.effective.0 < self.maturity.0
+        FIRST <= self.effective && self.maturity <= LAST && self.effective < self.maturity
     }
 
     /// The bond's terms, if its fields are in their ranges and its days in order.

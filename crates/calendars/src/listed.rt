@@ -5,7 +5,7 @@ ghost use Rattle.calendars.specs.Lists.{held_days, listed_code, breaks, list_ans
 
 use crate::calendar::Calendar;
 use crate::layer::Layer;
-use dates::{Day, LAST_DAY};
+use dates::Day;
 use faults::CalendarFault;
 
 // No `impl Model`, as for `Rule`.
@@ -21,7 +21,7 @@ fn breaks_rise(days: &[Day], i: usize) -> bool
     requires { i < length days.now }
     ensures { result ≡ breaks days.now i }
 {
-    days[i].0 > LAST_DAY || (i > 0 && days[i].0 <= days[i - 1].0)
+    days[i].checked().is_err() || (i > 0 && days[i] <= days[i - 1])
 }
 
 /// Refuses at the first day that does not rise or lies too late.

@@ -161,9 +161,7 @@ impl<'a, R: Abort, P: Amendable, C: Convention> Bench<'a, R, P, C> {
 
     /// A payment of the bond of a number is this one.
     pub(crate) fn pays(&mut self, number: u64, k: u64, due: Due) -> Result<(), Fail> {
-        let Ok(payment) = self.sheet.payment(number, k) else {
-            return Err(Fail::new("no payment"));
-        };
+        let payment = self.sheet.payment(number, k)?;
         assert_eq!(self.rt; payment.date.day(), day_of(due.date)?);
         assert_eq!(self.rt; payment.fixing, Some(day_of(due.fixing)?));
         assert_eq!(self.rt; payment.days, due.days);

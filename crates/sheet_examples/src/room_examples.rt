@@ -1,5 +1,5 @@
-use crate::sheets::program_sheet;
 use crate::bench::Bench;
+use crate::sheets::program_sheet;
 use faults::SheetFault;
 use std::test::Fail;
 

@@ -11,10 +11,7 @@ pub(crate) type ProgramSheet = Sheet<DayCache<AmendmentLayer<Target>>, ModifiedF
 
 pub(crate) fn program_sheet() -> Result<ProgramSheet, CalendarFault> {
     let layer = AmendmentLayer::new(target_calendar()?, 9);
-    Ok(Sheet::new(
-        DayCache::new(layer, Day(44_925)),
-        ModifiedFollowing,
-    ))
+    Ok(Sheet::new(DayCache::new(layer, Day(44_925)), ModifiedFollowing))
 }
 
 /// A sheet over a calendar that has no good day.

@@ -8,41 +8,35 @@ fn on(year: u16, month: u8, day: u8) -> CivilDate {
     CivilDate { year, month, day }
 }
 
-fn bond(effective: Day, maturity: Day, months: u64, stub: u64, mark: u64) -> Bond {
-    Bond {
-        number: 7,
-        effective,
-        maturity,
-        months,
-        stub,
-        mark,
-        lag: 2,
-        face: 100,
-        rate: 1_000,
-    }
-}
+/// Months, stub and mark are written over it, and the days.
+const PLAIN: Bond = Bond {
+    number: 7,
+    effective: Day(0),
+    maturity: Day(0),
+    months: 1,
+    stub: 0,
+    mark: 0,
+    lag: 2,
+    face: 100,
+    rate: 1_000,
+};
 
 /// The rolls of a bond from the first to the last of these dates are just these dates.
-fn check_rolls(
-    rt: &impl Abort,
-    months: u64,
-    stub: u64,
-    mark: u64,
-    dates: &[CivilDate],
-) -> Result<(), Fail> {
+fn check_rolls(rt: &impl Abort, bond: Bond, dates: &[CivilDate]) -> Result<(), Fail> {
     let effective = dates.first().copied().ok_or("no dates")?.day()?;
     let maturity = dates.last().copied().ok_or("no dates")?.day()?;
-    let rolls = bond(effective, maturity, months, stub, mark)
-        .terms()?
-        .rolls()?;
-    assert_eq!(rt; rolls.count() as usize, dates.len());
-    let mut i = 0u32;
-    for date in dates {
+    let bond = Bond {
+        effective,
+        maturity,
+        ..bond
+    };
+    let rolls = bond.terms()?.rolls()?;
+    for (i, date) in (0u32..).zip(dates) {
         let roll = rolls.day(i).ok_or("no roll")?;
         assert_eq!(rt; roll.0, date.day()?.0);
-        i = i.saturating_add(1);
     }
-    assert!(rt; rolls.day(i).is_none());
+    assert_eq!(rt; usize::try_from(rolls.count()), Ok(dates.len()));
+    assert!(rt; rolls.day(rolls.count()).is_none());
     Ok(())
 }
 
@@ -50,9 +44,7 @@ fn check_rolls(
 fn stubs(rt: HostRuntime) -> Result<(), Fail> {
     check_rolls(
         &rt,
-        3,
-        0,
-        0,
+        Bond { months: 3, ..PLAIN },
         &[
             on(2024, 1, 15),
             on(2024, 3, 20),
@@ -63,9 +55,11 @@ fn stubs(rt: HostRuntime) -> Result<(), Fail> {
     )?;
     check_rolls(
         &rt,
-        3,
-        1,
-        0,
+        Bond {
+            months: 3,
+            stub: 1,
+            ..PLAIN
+        },
         &[
             on(2024, 1, 15),
             on(2024, 6, 20),
@@ -75,9 +69,11 @@ fn stubs(rt: HostRuntime) -> Result<(), Fail> {
     )?;
     check_rolls(
         &rt,
-        3,
-        2,
-        0,
+        Bond {
+            months: 3,
+            stub: 2,
+            ..PLAIN
+        },
         &[
             on(2024, 1, 15),
             on(2024, 4, 15),
@@ -88,9 +84,11 @@ fn stubs(rt: HostRuntime) -> Result<(), Fail> {
     )?;
     check_rolls(
         &rt,
-        3,
-        3,
-        0,
+        Bond {
+            months: 3,
+            stub: 3,
+            ..PLAIN
+        },
         &[
             on(2024, 1, 15),
             on(2024, 4, 15),
@@ -98,7 +96,15 @@ fn stubs(rt: HostRuntime) -> Result<(), Fail> {
             on(2024, 12, 20),
         ],
     )?;
-    check_rolls(&rt, 3, 1, 0, &[on(2024, 1, 15), on(2024, 2, 10)])
+    check_rolls(
+        &rt,
+        Bond {
+            months: 3,
+            stub: 1,
+            ..PLAIN
+        },
+        &[on(2024, 1, 15), on(2024, 2, 10)],
+    )
 }
 
 #[test]
@@ -106,9 +112,11 @@ fn no_stub(rt: HostRuntime) -> Result<(), Fail> {
     for stub in [0, 1, 2, 3] {
         check_rolls(
             &rt,
-            3,
-            stub,
-            0,
+            Bond {
+                months: 3,
+                stub,
+                ..PLAIN
+            },
             &[
                 on(2024, 1, 15),
                 on(2024, 4, 15),
@@ -124,9 +132,7 @@ fn no_stub(rt: HostRuntime) -> Result<(), Fail> {
 fn ends_of_months(rt: HostRuntime) -> Result<(), Fail> {
     check_rolls(
         &rt,
-        1,
-        2,
-        0,
+        Bond { stub: 2, ..PLAIN },
         &[
             on(2023, 12, 31),
             on(2024, 1, 31),
@@ -137,9 +143,7 @@ fn ends_of_months(rt: HostRuntime) -> Result<(), Fail> {
     )?;
     check_rolls(
         &rt,
-        1,
-        2,
-        0,
+        Bond { stub: 2, ..PLAIN },
         &[
             on(2023, 1, 29),
             on(2023, 2, 28),
@@ -149,9 +153,7 @@ fn ends_of_months(rt: HostRuntime) -> Result<(), Fail> {
     )?;
     check_rolls(
         &rt,
-        1,
-        0,
-        0,
+        PLAIN,
         &[
             on(2023, 1, 30),
             on(2023, 2, 28),
@@ -161,9 +163,7 @@ fn ends_of_months(rt: HostRuntime) -> Result<(), Fail> {
     )?;
     check_rolls(
         &rt,
-        1,
-        0,
-        1,
+        Bond { mark: 1, ..PLAIN },
         &[
             on(2023, 1, 28),
             on(2023, 1, 31),
@@ -177,25 +177,45 @@ fn ends_of_months(rt: HostRuntime) -> Result<(), Fail> {
 #[test]
 fn a_hundred_rolls(rt: HostRuntime) -> Result<(), Fail> {
     let from = on(2000, 1, 1).day()?;
-    let rolls = bond(from, on(2008, 4, 1).day()?, 1, 0, 0).terms()?.rolls()?;
+    let rolls = Bond {
+        effective: from,
+        maturity: on(2008, 4, 1).day()?,
+        ..PLAIN
+    }
+    .terms()?
+    .rolls()?;
     assert_eq!(rt; rolls.count(), 100);
     assert!(rt;
-        bond(from, on(2008, 5, 1).day()?, 1, 0, 0)
-            .terms()?
-            .rolls()
-            .is_err()
+        Bond {
+            effective: from,
+            maturity: on(2008, 5, 1).day()?,
+            ..PLAIN
+        }
+        .terms()?
+        .rolls()
+        .is_err()
     );
     assert!(rt;
-        bond(from, on(2008, 4, 20).day()?, 1, 3, 0)
-            .terms()?
-            .rolls()
-            .is_ok()
+        Bond {
+            effective: from,
+            maturity: on(2008, 4, 20).day()?,
+            stub: 3,
+            ..PLAIN
+        }
+        .terms()?
+        .rolls()
+        .is_ok()
     );
     assert!(rt;
-        bond(from, on(2008, 4, 20).day()?, 1, 2, 0)
-            .terms()?
-            .rolls()
-            .is_err()
+        Bond {
+            effective: from,
+            maturity: on(2008, 4, 20).day()?,
+            stub: 2,
+            ..PLAIN
+        }
+        .terms()?
+        .rolls()
+        .is_err()
     );
     Ok(())
 }
@@ -204,7 +224,11 @@ fn a_hundred_rolls(rt: HostRuntime) -> Result<(), Fail> {
 fn fields_out_of_range(rt: HostRuntime) -> Result<(), Fail> {
     let from = on(2000, 1, 1).day()?;
     let to = on(2008, 1, 1).day()?;
-    let good = bond(from, to, 1, 0, 0);
+    let good = Bond {
+        effective: from,
+        maturity: to,
+        ..PLAIN
+    };
     for bad in [
         Bond { number: 0, ..good },
         Bond {
@@ -256,7 +280,12 @@ fn fields_out_of_range(rt: HostRuntime) -> Result<(), Fail> {
 
 #[test]
 fn amounts(rt: HostRuntime) -> Result<(), Fail> {
-    let terms = bond(on(2000, 1, 1).day()?, on(2008, 1, 1).day()?, 1, 0, 0).terms()?;
+    let terms = Bond {
+        effective: on(2000, 1, 1).day()?,
+        maturity: on(2008, 1, 1).day()?,
+        ..PLAIN
+    }
+    .terms()?;
     assert_eq!(rt; terms.amount(180), 1);
     assert_eq!(rt; terms.amount(179), 0);
     assert_eq!(rt; terms.amount(36_000), 100);

@@ -26,10 +26,8 @@ fn monthly_rolls() -> Result<Rolls, Fail> {
 /// A run of 65 days.
 fn days_from(first: u32) -> [Day; 65] {
     let mut days = [Day(0); 65];
-    let mut day = first;
-    for place in &mut days {
+    for (place, day) in days.iter_mut().zip(first..) {
         *place = Day(day);
-        day = day.saturating_add(1);
     }
     days
 }
@@ -88,16 +86,12 @@ fn schedule_of_good_days(rt: HostRuntime) -> Result<(), Fail> {
     assert!(rt; schedule.payment(0).is_none());
     assert!(rt; schedule.payment(7).is_none());
     assert!(rt; schedule.payment(18_446_744_073_709_551_615).is_none());
-    let Some(first) = schedule.payment(1) else {
-        return Err(Fail::new("no payment 1"));
-    };
+    let first = schedule.payment(1).ok_or("no payment 1")?;
     assert_eq!(rt; first.date.day().0, 36_569);
     assert_eq!(rt; first.fixing.ok_or("no fixing")?.0, 36_533);
     assert_eq!(rt; first.days, 31);
     assert_eq!(rt; first.amount, 31_000);
-    let Some(last) = schedule.payment(6) else {
-        return Err(Fail::new("no payment 6"));
-    };
+    let last = schedule.payment(6).ok_or("no payment 6")?;
     assert_eq!(rt; last.date.day().0, 36_720);
     assert_eq!(rt; last.fixing.ok_or("no fixing")?.0, 36_685);
     assert_eq!(rt; last.days, 30);
