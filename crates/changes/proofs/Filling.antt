@@ -6,7 +6,7 @@ use Rattle.generation.specs.Schedules.{Scheduled}
 use Rattle.changes.specs.declared.change.Change.{Change}
 use Rattle.changes.specs.Changes.{Altered, altered_payment, alteration, changes_in, seen_change, written, written_count}
 use Rattle.changes.proofs.Listings.{from_payment, next_payment, last_payment}
-use Rattle.changes.proofs.Writings.{Written, write_start, one_fits, write_one, when_fits, when_not}
+use Rattle.changes.proofs.Writings.{Written, one_fits, write_one, when_fits}
 
 module _ (before after : ℕ → ℕ) (x y : Scheduled) (places : List Change) where
   -- the changes of the payments below k stand in the first n places
