@@ -6,29 +6,16 @@ use Rattle.generation.specs.Schedules.{Scheduled}
 use Rattle.changes.specs.declared.change.Change.{Change}
 use Rattle.changes.specs.Changes.{Altered, altered_payment, alteration, changes_in, seen_change, written, written_count}
 use Rattle.changes.proofs.Listings.{from_payment, next_payment, last_payment}
-use Rattle.changes.proofs.Writings.{Written, write_start, one_fits, write_one, when_fits, when_not}
+use Rattle.changes.proofs.Writings.{Written, one_fits, write_one, when_fits}
 
 module _ (before after : ℕ → ℕ) (x y : Scheduled) (places : List Change) where
   -- the changes of the payments below k stand in the first n places
   abbrev pub Filled : ℕ → List Change → ℕ → Type 0
   Filled k list n = Written (changes_in before after x y) (from_payment before after x y (length x.days) k) (map seen_change places) (map seen_change list) n
 
-  -- how a list answers when it has room and when it has not
+  -- how a list answers when it has room
   abbrev pub Answered : List Change → ℕ → Type 0
   Answered list n = (Some n ≡ written_count (changes_in before after x y) (map seen_change places)) × (map seen_change list ≡ written (changes_in before after x y) (map seen_change places))
-
-  abbrev pub Unanswered : Type 0
-  Unanswered = (None ≡ written_count (changes_in before after x y) (map seen_change places)) × (map seen_change places ≡ written (changes_in before after x y) (map seen_change places))
-
-  -- there is no room
-  pub not_filled : length places < length (changes_in before after x y) → Unanswered
-  not_filled h =
-      let l = length-map places seen_change in
-      let w = when_not (changes_in before after x y) (map seen_change places) (omega arith) in
-      (w.1, w.0)
-
-  pub fill_start : length (changes_in before after x y) ≤ length places → Filled 1 places 0
-  fill_start h = let l = length-map places seen_change in write_start (changes_in before after x y) (map seen_change places) (omega arith)
 
   -- A payment k of the bond.
   module _ (k : ℕ) (list : List Change) (n : ℕ) (inside : k < length x.days) (so_far : Filled k list n) where

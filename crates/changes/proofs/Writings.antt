@@ -1,7 +1,7 @@
 -- A list written from the start of lent places, member by member.
-use Rattle.std.proofs.Common.{◌≡◌, ℕ, ◌+◌, ◌<◌, ◌≤◌, List, [], ◌∷◌, ◌++◌, length, take, drop, set, Some, None, sym, refl, ap, ◌∙◌, ap₂, append_assoc, append-nil, arith}
+use Rattle.std.proofs.Common.{◌≡◌, ℕ, ◌+◌, ◌<◌, ◌≤◌, List, [], ◌∷◌, ◌++◌, length, take, drop, set, Some, sym, ap, ◌∙◌, ap₂, append_assoc, append-nil, arith}
 use Rattle.std.proofs.lemmas.List.{take_more_set, take-append-drop, length-take-le, length-set, drop-drop, drop-set-lt}
-use Rattle.std.proofs.lemmas.Bool.{le-leb, lt-leb, cond-true, cond-false}
+use Rattle.std.proofs.lemmas.Bool.{le-leb, cond-true}
 use Rattle.changes.specs.Changes.{written, written_count}
 
 -- the first n places and what is still to come make up the whole; the other places are as before
@@ -11,10 +11,6 @@ pub record Written {A : Type 0} (whole rest places out : List A) (n : ℕ) : Typ
   pub room : n + length rest ≤ length out
 
 module _ {A : Type 0} (whole places : List A) where
-  -- nothing is written yet
-  pub write_start : length whole ≤ length places → Written whole whole places places 0
-  write_start h = record { front = refl; back = refl; room = omega arith }
-
   -- one more fits
   pub one_fits : (rest more out : List A) (n : ℕ) (a : A) → rest ≡ a ∷ more → Written whole rest places out n → n < length out
   one_fits rest more out n a e w = let l = ap length e in omega (arith, w.room)
@@ -43,7 +39,3 @@ module _ {A : Type 0} (whole places : List A) where
       let b = le-leb (length whole) (length places) h in
       let e = write_end out n w in
       (e.0 ∙ sym (cond-true _ _ _ b), ap Some e.1 ∙ sym (cond-true _ _ _ b))
-
-  -- the answer if they do not
-  pub when_not : length places < length whole → (places ≡ written whole places) × (None ≡ written_count whole places)
-  when_not h = let b = lt-leb (length whole) (length places) h in (sym (cond-false _ _ _ b), sym (cond-false _ _ _ b))

@@ -1,23 +1,14 @@
 use Rattle.std.proofs.Common.{ℕ, arith}
 use Rattle.generation.specs.Schedules.{seen_schedule}
 use Rattle.changes.specs.Changes.{seen_pair}
-use Rattle.changes.proofs.Filling.{not_filled, fill_start, fill_fits, fill_one, fill_none, fill_end}
+use Rattle.changes.proofs.Filling.{fill_fits, fill_one, fill_none, fill_end}
 use Rattle.changes.proofs.Exactly.{listed_exactly}
 use Rattle.changes.proofs.revision.Revision.write.Goals.{in-Some, in_default}
 use Rattle.changes.proofs.revision.Revision.write.Goals as goal
 
-pub returns-then-count-list : goal.returns-then-count-list
-returns-then-count-list g c =
-    let before = g.K.Calendar.codes c.args.turn.now.before.now in
-    let after = g.T.Calendar.codes c.args.turn.now.after.now in
-    let h = not_filled before after (seen_schedule c.args.self.now.old.now) (seen_schedule c.args.self.now.new.now) c.args.list.now (omega (arith, c.count.ensures.is before after)) in
-    record { answer = h.0; list = h.1; law = listed_exactly before after (seen_schedule c.args.self.now.old.now) (seen_schedule c.args.self.now.new.now) }
-
-pub loop-k-init : goal.loop-k-init
-loop-k-init g c =
-    let before = g.K.Calendar.codes c.args.turn.now.before.now in
-    let after = g.T.Calendar.codes c.args.turn.now.after.now in
-    (fill_start before after (seen_schedule c.args.self.now.old.now) (seen_schedule c.args.self.now.new.now) c.args.list.now (omega (arith, c.count.ensures.is before after)), omega arith)
+pub returns-then-count-list-clause-law : goal.returns-then-count-list-clause-law
+returns-then-count-list-clause-law g c =
+    listed_exactly (g.K.Calendar.codes c.args.turn.now.before.now) (g.T.Calendar.codes c.args.turn.now.after.now) (seen_schedule c.args.self.now.old.now) (seen_schedule c.args.self.now.new.now)
 
 pub bounds-list-n : goal.bounds-list-n
 bounds-list-n g c =
