@@ -13,6 +13,7 @@ impl Terms {
         ensures nearest { Nearest (self.now.face * self.now.rate * days) 36000000 result }
     {
         let product = u128::from(self.face) * u128::from(self.rate) * u128::from(days);
+        // Narrowed by `as`: the largest face, rate and days leave no error that `try_from` could give.
         ((2 * product + YEAR) / (2 * YEAR)) as u64
     }
 }

@@ -38,9 +38,7 @@ impl Turns for ModifiedFollowing {
     ghost lawful = { modified_following_laws };
 
     fn last_day(&self, u: u32) -> u32 {
-        match Day(u).month_place() {
-            Ok(at) => at.month.day_at(30).0,
-            Err(_) => unreachable(),
-        }
+        let at = Day(u).month_place().unwrap();
+        at.month.day_at(30).0
     }
 }

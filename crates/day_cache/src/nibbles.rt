@@ -9,6 +9,7 @@ fn nibble(word: u64, place: u32) -> u8
     requires { place < 16 }
     ensures { result ≡ nibble word place }
 {
+    // Narrowed by `as`: what the mask leaves is at most 15.
     ((word >> (4 * place)) & 15) as u8
 }
 

@@ -67,8 +67,5 @@ pub(crate) fn roll_of_bond<K: Calendar, C: Convention>(
     requires { i < length (unadjusted_rolls rolls.now.terms) }
     ensures { result_map_both seen_roll generation_refusal result ≡ bond_roll (λ d. good (K.Calendar.codes adjuster.now.calendar.now d)) (C.Convention.tries adjuster.now.convention.now) rolls.now.terms i }
 {
-    match bond_roll(adjuster, rolls, i) {
-        Some(roll) => roll,
-        None => unreachable(),
-    }
+    bond_roll(adjuster, rolls, i).unwrap()
 }

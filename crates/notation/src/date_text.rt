@@ -15,6 +15,7 @@ fn civil_of(text: &[u8]) -> Option<CivilDate>
     let year = digits_of(&text[0..4])?;
     let month = digits_of(&text[5..7])?;
     let day = digits_of(&text[8..10])?;
+    // Narrowed by `as`: four digits and two leave no error that `try_from` could give.
     Some(CivilDate {
         year: year as u16,
         month: month as u8,

@@ -7,6 +7,7 @@ pub(crate) const MOST_BONDS: usize = 32;
 /// The most rolls of all live bonds together.
 pub(crate) const MOST_ROLLS: u32 = 400;
 
+// Not the sheet of `kept_sheet` at another type: this one stands over any calendar, and keeps numbers alone.
 /// A sheet over a calendar and a convention.
 #[derive(Drop)]
 pub struct Sheet<K, C> {

@@ -57,6 +57,7 @@ impl Schedule {
         if !(1..u64::from(self.count())).contains(&k) {
             return None;
         }
+        // Narrowed by `as`: k was tested to be at most 99.
         let at = k as usize;
         let terms = self.rolls.terms();
         Some(Payment::between(&terms, self.days[at - 1], self.days[at]))

@@ -51,6 +51,7 @@ impl Schedule {
         ensures bound { result ≤ 100 }
     {
         let counted = (0..self.count()).filter(|i| self.counts(convention, days, *i));
+        // Narrowed by `as`: they are at most 100.
         counted.count() as u32
     }
 

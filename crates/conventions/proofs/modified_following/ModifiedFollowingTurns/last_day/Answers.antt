@@ -6,5 +6,5 @@ use Rattle.conventions.proofs.modified_following.ModifiedFollowingTurns.last_day
 
 pub returns : goal.returns
 returns c =
-    let e = ap (λ (s : Spot). s.month) (asked_is c.args.u _ _ c.in-Ok.ensures) in
+    let e = ap (λ (s : Spot). s.month) (asked_is c.args.u _ _ (rw c.unwrap-at.ensures at c.month_place.ensures)) in
     grind (arith, last_low c.args.u c.requires, last_high c.args.u c.requires)
