@@ -47,6 +47,7 @@ fn check_one<P: Amendable>(calendar: &P, day: Day, good: bool) -> Result<(), Fau
     check_room(calendar, new_entries(calendar, day)?)
 }
 
+/// What is refused of moving a closed day to a good one.
 fn check_move<P: Amendable>(calendar: &P, from: Day, to: Day) -> Result<(), Fault>
     ensures { told refusal result ≡ calendar_answer (meaning (P.Calendar.codes calendar.now) (P.Amendable.rest calendar.now)) (Notice.Move from to) }
 {
@@ -62,6 +63,7 @@ fn check_move<P: Amendable>(calendar: &P, from: Day, to: Day) -> Result<(), Faul
     check_room(calendar, first + second)
 }
 
+/// 13 unless the day is entered.
 fn check_withdraw<P: Amendable>(calendar: &P, day: Day) -> Result<(), Fault>
     ensures { told refusal result ≡ calendar_answer (meaning (P.Calendar.codes calendar.now) (P.Amendable.rest calendar.now)) (Notice.Withdraw day) }
 {
