@@ -48,7 +48,8 @@ impl Revision<'_> {
         if self.count() > list.len() {
             return None;
         }
-        // By index: nothing is known of what is written through an adapter of `iter_mut`.
+        // By index: a place is taken only where a payment alters, and a proof knows nothing of what is
+        // written through an iterator that is asked for its next place so.
         let mut n = 0;
         for k in 1..self.old.count() {
             if let Some((was, becomes)) = self.altered(k) {

@@ -26,8 +26,8 @@ impl Schedule {
         let count = rolls.count();
         let first = roll_of_bond(adjuster, &rolls, 0)?;
         let mut days = [first; 100];
-        // By index: `array::try_from_fn` does not say that the refusal is the first, and nothing is
-        // known of what is written through an adapter of `iter_mut`.
+        // By index: a roll is asked for by its number, a u32 from 1 on, which `enumerate` would give as
+        // a usize from 0; and `array::try_from_fn` does not say that the refusal is the first.
         for i in 1..count {
             days[i as usize] = roll_of_bond(adjuster, &rolls, i)?;
         }

@@ -40,9 +40,8 @@ impl Schedule {
         let Some(u) = self.rolls.day(i) else {
             return false;
         };
-        footing_of(convention, u, self.days[i as usize]).is_ok_and(|footing| footing.holds_one(
-            days,
-        ))
+        let kept = footing_of(convention, u, self.days[i as usize]);
+        kept.is_ok_and(|footing| footing.holds_one(days))
     }
 
     /// How many rolls stand on one of the days.
@@ -81,7 +80,7 @@ impl Schedule {
         ensures suffices { RetrySuffices (λ d. good (K.Calendar.codes adjuster.now.calendar.now d)) (C.Convention.tries adjuster.now.convention.now) (map number_of days.now) (seen_schedule self.now) }
     {
         let mut anew = self.days;
-        // By index, as in `generate`.
+        // By index, as in `generate`: a roll is asked for by its number.
         for i in 0..self.count() {
             anew[i as usize] = self.retry_roll(adjuster, days, i)?;
         }
