@@ -80,9 +80,9 @@ impl Schedule {
         ensures suffices { RetrySuffices (λ d. good (K.Calendar.codes adjuster.now.calendar.now d)) (C.Convention.tries adjuster.now.convention.now) (map number_of days.now) (seen_schedule self.now) }
     {
         let mut anew = self.days;
-        // By index, as in `generate`: a roll is asked for by its number.
-        for i in 0..self.count() {
-            anew[i as usize] = self.retry_roll(adjuster, days, i)?;
+        let kept = &mut anew[..self.count() as usize];
+        for (i, place) in kept.iter_mut().enumerate() {
+            *place = self.retry_roll(adjuster, days, i as u32)?;
         }
         Ok(Schedule {
             rolls: self.rolls,

@@ -44,7 +44,7 @@ returns-in_err-days g c =
       is =
           rw (p.1, p.2)
           (ap (scheduled t)
-          (filled_refused (bond_roll ok tries t) c.count-count.result (all_rolls ok tries t) c.loop-i.i c.loop-i.days c.loop-i.invariant _ (omega arith) (sym c.in_err-days.ensures)));
+          (filled_refused (bond_roll ok tries t) c.count-count.result 100 (all_rolls ok tries t) c.loop-i.i c.loop-i.days c.loop-i.invariant _ (omega arith) (sym c.in_err-days.ensures)));
       first = first_fault ok tries t;
     }
 
@@ -53,7 +53,7 @@ loop-i-preserved g c =
     let ok : ℕ → Bool = λ d. good (g.K.Calendar.codes c.args.adjuster.now.calendar.now d) in
     let tries : ℕ → List ℕ = g.C.Convention.tries c.args.adjuster.now.convention.now in
     let t = c.args.rolls.terms in
-    filled_more (bond_roll ok tries t) c.count-count.result (all_rolls ok tries t) c.loop-i.i c.loop-i.days c.loop-i.invariant c.in_ok-days.field-0
+    filled_more (bond_roll ok tries t) c.count-count.result 100 (all_rolls ok tries t) c.loop-i.i c.loop-i.days c.loop-i.invariant c.in_ok-days.field-0
     (omega arith) (omega (arith, c.count-count.ensures.bound)) (sym c.in_ok-days.ensures)
 
 pub returns : goal.returns
@@ -65,6 +65,6 @@ returns g c =
     record {
       is =
           ap (scheduled t)
-          (filled_all (bond_roll ok tries t) c.count-count.result (all_rolls ok tries t) c.loop-i.i c.loop-i.days c.loop-i.invariant _ n (omega arith));
+          (filled_all (bond_roll ok tries t) c.count-count.result 100 (all_rolls ok tries t) c.loop-i.i c.loop-i.days c.loop-i.invariant _ n (omega arith));
       first = first_fault ok tries t;
     }

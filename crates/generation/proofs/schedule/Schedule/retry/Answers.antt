@@ -6,12 +6,12 @@ use Rattle.generation.specs.Rolls.{RollDays}
 use Rattle.generation.specs.Retrying.{retried_roll}
 use Rattle.generation.specs.Schedules.{seen_schedule, scheduled}
 use Rattle.generation.specs.Views.{number_of}
-use Rattle.generation.proofs.InPlace.{filled_more, filled_refused, filled_all}
+use Rattle.generation.proofs.InPlace.{filled_more, filled_refused, filled_first}
 use Rattle.generation.proofs.Retried.{retry_suffices}
 use Rattle.generation.proofs.schedule.Schedule.retry.Goals as goal
 
-pub returns-in_err-anew : goal.returns-in_err-anew
-returns-in_err-anew g c =
+pub returns-in_err-place : goal.returns-in_err-place
+returns-in_err-place g c =
     let ok : ℕ → Bool = λ d. good (g.K.Calendar.codes c.args.adjuster.now.calendar.now d) in
     let tries : ℕ → List ℕ = g.C.Convention.tries c.args.adjuster.now.convention.now in
     let ds = map number_of c.args.days.now in
@@ -22,7 +22,7 @@ returns-in_err-anew g c =
       is =
           rw (p.1, p.2)
           (ap (scheduled x.terms)
-          (filled_refused f (length x.days) _ c.loop-i.i c.loop-i.anew c.loop-i.invariant _ (omega (arith, c.count-i-end.ensures.is)) (sym c.in_err-anew.ensures)));
+          (filled_refused f (length x.days) (length x.days) _ c.loop-i.i c.loop-i.kept c.loop-i.invariant _ (omega (arith, c.loop-i.invariant.1)) (sym c.in_err-place.ensures)));
       suffices = retry_suffices ok tries ds x;
     }
 
@@ -32,8 +32,8 @@ loop-i-preserved g c =
     let tries : ℕ → List ℕ = g.C.Convention.tries c.args.adjuster.now.convention.now in
     let x = seen_schedule c.args.self.now in
     let f : ℕ → Result RollDays Refusal = retried_roll ok tries (map number_of c.args.days.now) x in
-    filled_more f (length x.days) _ c.loop-i.i c.loop-i.anew c.loop-i.invariant c.in_ok-anew.field-0
-    (omega (arith, c.count-i-end.ensures.is)) (omega (arith, c.count-i-end.ensures.bound)) (sym c.in_ok-anew.ensures)
+    filled_more f (length x.days) (length x.days) _ c.loop-i.i c.loop-i.kept c.loop-i.invariant c.in_ok-place.field-0
+    (omega (arith, c.loop-i.invariant.1)) (omega (arith, c.loop-i.invariant.1)) (sym c.in_ok-place.ensures)
 
 pub returns : goal.returns
 returns g c =
@@ -42,8 +42,8 @@ returns g c =
     let ds = map number_of c.args.days.now in
     let x = seen_schedule c.args.self.now in
     let f : ℕ → Result RollDays Refusal = retried_roll ok tries ds x in
-    let n : c.args.self.now.rolls.inner + 2 ≡ c.loop-i.i = omega (arith, c.count-i-end.ensures.places) in
+    let n : c.args.self.now.rolls.inner + 2 ≡ c.loop-i.i = omega (arith, c.count.ensures.is, c.count.ensures.places, c.loop-i.invariant.1) in
     record {
-      is = ap (scheduled x.terms) (filled_all f (length x.days) _ c.loop-i.i c.loop-i.anew c.loop-i.invariant _ n (omega (arith, c.count-i-end.ensures.is)));
+      is = ap (scheduled x.terms) (filled_first f (length x.days) (length x.days) _ c.loop-i.i c.loop-i.kept c.loop-i.invariant _ _ n (omega (arith, c.loop-i.invariant.1)) (omega (arith, c.loop-i.invariant.1)));
       suffices = retry_suffices ok tries ds x;
     }
