@@ -1,12 +1,12 @@
 -- The table of the code once more: the check compares the two.
-use Rattle.std.proofs.Common.{◌≡◌, ℕ, ◌+◌, ◌-◌, ◌<◌, ◌≤◌, Ok, List, [], ◌∷◌, get_or, refl, arith}
+use Rattle.std.proofs.Common.{◌≡◌, ℕ, ◌+◌, ◌-◌, ◌<◌, Ok, List, [], ◌∷◌, get_or, refl, arith}
 use Rattle.std.proofs.lemmas.Bool.Decides.{nat_tests}
 use Rattle.dates.specs.Easter.{easter_sum, easter_month, easter_day, easter_after, easter_answer}
 use Rattle.dates.specs.Years.{leap, new_year, month_start}
 use Rattle.dates.specs.Months.{first_of, month_answer}
 use Rattle.dates.specs.Civil.{day_number}
 use Rattle.dates.proofs.CivilMonths.{month_granted}
-use Rattle.dates.proofs.Computed.{table, equal, at_most}
+use Rattle.dates.proofs.Computed.{table, equal}
 
 unfoldable pub entries : List ℕ
 entries =

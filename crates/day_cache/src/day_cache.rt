@@ -65,7 +65,7 @@ impl<P: Amendable> Amendable for DayCache<P> {
         self.lower.number()
     }
 
-    // Three bodies of three lines: one that takes the call as a closure would be no shorter.
+    // Alike but for the call: one body for the three would take that as a closure, and be no shorter with the clauses on it.
     fn close(&mut self, day: Day) -> Result<(), CalendarFault> {
         self.lower.close(day)?;
         self.kept.refresh(&self.lower, day);

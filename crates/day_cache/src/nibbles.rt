@@ -39,6 +39,7 @@ pub(crate) fn keep_code(words: &mut [u64], k: u32, code: Code)
     requires { (length words.old ≡ 64) × (k < 1024) }
     ensures { kept_code words.new ≡ recoded (kept_code words.old) k code.value }
 {
+    // `as`, as in `kept_code`.
     let at = (k / 16) as usize;
     words[at] = with_nibble(words[at], k % 16, code);
 }

@@ -20,6 +20,6 @@ pub fn fixing_before<K: Calendar>(calendar: &K, adjusted: Adjusted, lag: u32) ->
     (1..=WINDOW)
         .map(|back| Day(day.saturating_sub(back)))
         .filter(|earlier| is_good_day(calendar, *earlier))
-        // `as`, here and for the places of a schedule: no `From` makes a usize of a u32.
+        // `as`: no `From` makes a usize of a u32.
         .nth(passed as usize)
 }

@@ -24,8 +24,8 @@ impl Footing {
         ensures { seen_footing result ≡ record { low = min self.low.0 day.0; high = max self.high.0 day.0 } }
     {
         Footing {
-            low: Day(self.low.0.min(day.0)),
-            high: Day(self.high.0.max(day.0)),
+            low: self.low.min(day),
+            high: self.high.max(day),
         }
     }
 
@@ -33,7 +33,7 @@ impl Footing {
     fn back_to(self, fixing: Option<Day>) -> Footing
         ensures { seen_footing result ≡ record { low = stretched self.low.0 (option_map number_of fixing); high = self.high.0 } }
     {
-        let low = fixing.map_or(self.low, |day| Day(self.low.0.min(day.0)));
+        let low = fixing.map_or(self.low, |day| self.low.min(day));
         Footing { low, ..self }
     }
 }

@@ -7,6 +7,7 @@ use bonds::Rolls;
 #[derive(Clone, Copy)]
 pub struct Schedule {
     rolls: Rolls,
+    // A fixed array: no call may fail for want of memory.
     days: [Roll; 100],
     ghost size: { length days ≡ 100 },
 }

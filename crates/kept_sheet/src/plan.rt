@@ -15,6 +15,7 @@ use dates::Day;
 use faults::GenerationFault;
 use generation::Schedule;
 
+// As `roll_total` of a sheet but for the summand: one for both would take that as a closure, and a bound on it.
 /// How many rolls in some places stand on one of the days.
 pub(crate) fn counted<C: Convention>(
     places: &[Option<Schedule>],

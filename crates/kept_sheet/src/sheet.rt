@@ -19,6 +19,7 @@ const MOST_ROLLS: u32 = 400;
 pub struct Sheet<P: Amendable, C: Convention> {
     calendar: P,
     convention: C,
+    // A fixed array and a count: no call may fail for want of memory.
     places: [Option<Schedule>; 32],
     count: usize,
     ghost within: { (count ≤ 32) × (length places ≡ 32) },

@@ -93,6 +93,7 @@ fn open_then_close<P: Amendable>(calendar: &mut P, from: Day, to: Day) -> Result
     ensures after { meaning (P.Calendar.codes calendar.new) (P.Amendable.rest calendar.new) ≡ calendar_after (meaning (P.Calendar.codes calendar.old) (P.Amendable.rest calendar.old)) (Notice.Move from to) }
 {
     calendar.open(from)?;
+    // `?` and `Ok`: with the call as the last expression the clauses were left open.
     calendar.close(to)?;
     Ok(())
 }

@@ -66,11 +66,11 @@ pub(crate) fn answer(heap: Global, line: &str) -> anyhow::Result<String> {
         [_, months, stub, mark, effective, maturity] => {
             let bond = Bond {
                 number: 1,
-                effective: read_date(effective)?,
-                maturity: read_date(maturity)?,
                 months: read_number(months)?,
                 stub: read_number(stub)?,
                 mark: read_number(mark)?,
+                effective: read_date(effective)?,
+                maturity: read_date(maturity)?,
                 lag: 0,
                 face: 1,
                 rate: 0,

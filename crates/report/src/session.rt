@@ -26,10 +26,8 @@ impl Session {
 
     /// Does what a line asks for; a remark asks for nothing.
     fn answer(&mut self, line: Line<'_>) -> Result<Option<Answer>, Fault> {
-        match line.read()? {
-            Some(call) => self.sheet.call(call).map(Some),
-            None => Ok(None),
-        }
+        let call = line.read()?;
+        call.map(|call| self.sheet.call(call)).transpose()
     }
 
     /// Prints a refusal.

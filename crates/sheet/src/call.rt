@@ -4,6 +4,7 @@ ghost use Rattle.sheet.specs.AnswerTexts.{answer_text};
 use bonds::Bond;
 use std::fmt;
 
+// Not the calls and answers of `kept_sheet` twice: those have more cases, and the program reads one letter.
 /// What can be asked of a sheet.
 #[derive(Clone, Copy)]
 pub enum Call {

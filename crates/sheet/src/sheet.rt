@@ -1,5 +1,4 @@
 ghost use Rattle.std.specs.Prelude.{◌≤◌, length, ◌≡◌};
-ghost use Rattle.sheet.specs.declared.sheet.TheConstants.{MOST_BONDS, MOST_ROLLS};
 
 /// The most bonds that are live at once.
 pub(crate) const MOST_BONDS: usize = 32;
@@ -17,6 +16,6 @@ pub struct Sheet<K, C> {
     pub(crate) numbers: [u64; MOST_BONDS],
     pub(crate) count: usize,
     pub(crate) rolls: u32,
-    ghost within: { (count ≤ MOST_BONDS) × (length numbers ≡ MOST_BONDS) },
-    ghost few: { rolls ≤ MOST_ROLLS },
+    ghost within: { (count ≤ 32) × (length numbers ≡ 32) },
+    ghost few: { rolls ≤ 400 },
 }

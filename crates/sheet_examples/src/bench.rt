@@ -8,6 +8,7 @@ use std::process::Abort;
 use std::test::Fail;
 
 /// A year, a month and a day.
+// A tuple and no `CivilDate`: a constant's value takes no call that would make one in a line.
 pub(crate) type Date = (u16, u8, u8);
 
 /// A bond, with dates.
@@ -57,6 +58,7 @@ impl Draft {
     fn of_rolls(number: u64, rolls: u16) -> Draft {
         let months = rolls.saturating_sub(1);
         let year = 2000u16.saturating_add(months / 12);
+        // Narrowed by `as`: from 1 to 12.
         let month = (months % 12 + 1) as u8;
         Draft {
             number,
@@ -150,13 +152,8 @@ impl<'a, R: Abort, P: Amendable, C: Convention> Bench<'a, R, P, C> {
     }
 
     fn check_unread(&mut self, number: u64, k: u64, fault: SheetFault) -> Result<(), Fail> {
-        match self.sheet.payment(number, k) {
-            Ok(_) => Err(Fail::new("a payment")),
-            Err(refused) => {
-                assert_eq!(self.rt; refused, fault);
-                Ok(())
-            },
-        }
+        assert_eq!(self.rt; self.sheet.payment(number, k), Err(fault));
+        Ok(())
     }
 
     /// A payment of the bond of a number is this one.

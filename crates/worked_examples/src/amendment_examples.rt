@@ -104,10 +104,10 @@ fn check_late<P: Amendable>(rt: &impl Abort, calendar: &mut P, day: u32) {
 fn late_days_refused(rt: HostRuntime) -> Result<(), Fail> {
     let mut layer = target_layer(9)?;
     check_late(&rt, &mut layer, 109_573);
-    check_late(&rt, &mut layer, 4_294_967_295);
+    check_late(&rt, &mut layer, u32::MAX);
     let mut cache = DayCache::new(layer, Day(108_549));
     check_late(&rt, &mut cache, 109_573);
-    check_late(&rt, &mut cache, 4_294_967_295);
+    check_late(&rt, &mut cache, u32::MAX);
     Ok(())
 }
 

@@ -1,12 +1,9 @@
+use crate::date_examples::on;
 use bonds::Bond;
 use dates::{CivilDate, Day};
 use faults::SheetFault;
 use std::process::Abort;
 use std::test::Fail;
-
-fn on(year: u16, month: u8, day: u8) -> CivilDate {
-    CivilDate { year, month, day }
-}
 
 /// Months, stub and mark are written over it, and the days.
 const PLAIN: Bond = Bond {

@@ -1,25 +1,26 @@
+use crate::date_examples::on;
 use calendars::{Calendar, Joint, Listed, Weekly, target_calendar};
-use dates::{CivilDate, Day};
+use dates::Day;
 use faults::CalendarFault;
 use std::test::Fail;
 
 const WEEKEND: [bool; 7] = [false, false, false, false, false, true, true];
 
-fn on(year: u16, month: u8, day: u8) -> Result<Day, CalendarFault> {
-    CivilDate { year, month, day }.day()
+fn day_on(year: u16, month: u8, day: u8) -> Result<Day, CalendarFault> {
+    on(year, month, day).day()
 }
 
 #[test]
 fn target_codes(rt: HostRuntime) -> Result<(), Fail> {
     let target = target_calendar()?;
-    assert_eq!(rt; target.code(on(2024, 3, 29)?), Ok(3));
-    assert_eq!(rt; target.code(on(2024, 3, 30)?), Ok(1));
-    assert_eq!(rt; target.code(on(2024, 4, 1)?), Ok(3));
-    assert_eq!(rt; target.code(on(2024, 5, 1)?), Ok(2));
-    assert_eq!(rt; target.code(on(2024, 12, 26)?), Ok(2));
-    assert_eq!(rt; target.code(on(2024, 3, 28)?), Ok(0));
-    assert_eq!(rt; target.is_good(on(2024, 3, 28)?), Ok(true));
-    assert_eq!(rt; target.is_good(on(2024, 12, 25)?), Ok(false));
+    assert_eq!(rt; target.code(day_on(2024, 3, 29)?), Ok(3));
+    assert_eq!(rt; target.code(day_on(2024, 3, 30)?), Ok(1));
+    assert_eq!(rt; target.code(day_on(2024, 4, 1)?), Ok(3));
+    assert_eq!(rt; target.code(day_on(2024, 5, 1)?), Ok(2));
+    assert_eq!(rt; target.code(day_on(2024, 12, 26)?), Ok(2));
+    assert_eq!(rt; target.code(day_on(2024, 3, 28)?), Ok(0));
+    assert_eq!(rt; target.is_good(day_on(2024, 3, 28)?), Ok(true));
+    assert_eq!(rt; target.is_good(day_on(2024, 12, 25)?), Ok(false));
     assert_eq!(rt;
         target.code(Day(109_573)),
         Err(CalendarFault::DayAbove(109_573))

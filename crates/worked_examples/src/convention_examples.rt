@@ -71,20 +71,13 @@ fn nothing_good(rt: HostRuntime) -> Result<(), Fail> {
         calendar: &closed,
         convention: &ModifiedFollowing,
     };
-    match adjuster.adjust(EASTER) {
-        Ok(_) => Err(Fail::new("a good day")),
-        Err(fault) => {
-            assert_eq!(rt;
-                fault,
-                GenerationFault::NoGoodDay(RollAt {
-                    bond: 0,
-                    roll: 0,
-                    day: 45_380,
-                })
-            );
-            Ok(())
-        },
-    }
+    let fault = GenerationFault::NoGoodDay(RollAt {
+        bond: 0,
+        roll: 0,
+        day: 45_380,
+    });
+    assert_eq!(rt; adjuster.adjust(EASTER), Err(fault));
+    Ok(())
 }
 
 #[test]

@@ -2,7 +2,7 @@ use dates::{CivilDate, Day, Month, Weekday, easter_sunday, is_leap};
 use faults::CalendarFault;
 use std::test::Fail;
 
-fn on(year: u16, month: u8, day: u8) -> CivilDate {
+pub(crate) fn on(year: u16, month: u8, day: u8) -> CivilDate {
     CivilDate { year, month, day }
 }
 

@@ -40,13 +40,9 @@ fn check_refused(rt: &impl Abort, closed: &[Day], fault: GenerationFault) -> Res
         calendar: &listed,
         convention: &Following,
     };
-    match Schedule::generate(&adjuster, monthly_rolls()?) {
-        Ok(_) => Err(Fail::new("granted")),
-        Err(refused) => {
-            assert_eq!(rt; refused, fault);
-            Ok(())
-        },
-    }
+    let refused = Schedule::generate(&adjuster, monthly_rolls()?).map(|_| ());
+    assert_eq!(rt; refused, Err(fault));
+    Ok(())
 }
 
 #[test]
@@ -85,7 +81,7 @@ fn schedule_of_good_days(rt: HostRuntime) -> Result<(), Fail> {
     assert_eq!(rt; schedule.count(), 7);
     assert!(rt; schedule.payment(0).is_none());
     assert!(rt; schedule.payment(7).is_none());
-    assert!(rt; schedule.payment(18_446_744_073_709_551_615).is_none());
+    assert!(rt; schedule.payment(u64::MAX).is_none());
     let first = schedule.payment(1).ok_or("no payment 1")?;
     assert_eq!(rt; first.date.day().0, 36_569);
     assert_eq!(rt; first.fixing.ok_or("no fixing")?.0, 36_533);

@@ -68,7 +68,7 @@ impl<K: Calendar> Calendar for AmendmentLayer<K> {
 
     fn code(&self, day: Day) -> Result<u8, CalendarFault> {
         let under = self.under.code(day)?;
-        // A match: in `map_or`, the closure that reads a place would need a contract of its own.
+        // A match: with `map_or`, the proof of what is returned did not close.
         match self.find(day) {
             Ok(at) => Ok(self.entries[at].code.value()),
             Err(_) => Ok(under),

@@ -29,6 +29,7 @@ impl Schedule {
         // By index: a roll is asked for by its number, a u32 from 1 on, which `enumerate` would give as
         // a usize from 0; and `array::try_from_fn` does not say that the refusal is the first.
         for i in 1..count {
+            // `as`: no `From` makes a usize of a u32.
             days[i as usize] = roll_of_bond(adjuster, &rolls, i)?;
         }
         Ok(Schedule { rolls, days })

@@ -20,7 +20,7 @@ impl Footing {
     pub fn holds(&self, day: Day) -> bool
         ensures { result ≡ inside (seen_footing self.now) day.0 }
     {
-        (self.low.0..=self.high.0).contains(&day.0)
+        (self.low..=self.high).contains(&day)
     }
 
     /// Whether it holds one of the days.
@@ -37,9 +37,11 @@ impl Schedule {
         requires { i < self.now.rolls.inner + 2 }
         ensures { result ≡ counts (C.Convention.tries convention.now) (map number_of days.now) (seen_schedule self.now) i }
     {
+        // A `let`: `is_some_and` round `is_ok_and` would nest two closures.
         let Some(u) = self.rolls.day(i) else {
             return false;
         };
+        // `as`, here and below: no `From` makes a usize of a u32.
         let kept = footing_of(convention, u, self.days[i as usize]);
         kept.is_ok_and(|footing| footing.holds_one(days))
     }
