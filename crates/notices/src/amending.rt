@@ -11,6 +11,7 @@ use calendars::Calendar;
 use dates::Day;
 use faults::{CalendarFault, Fault, SheetFault};
 
+// Clauses name the calendar's meaning by its two members: a definition over these would take both, and be as long.
 /// 12 unless the day is good, or unless it is closed, as it has to be.
 fn check_state<P: Amendable>(calendar: &P, day: Day, good: bool) -> Result<(), Fault>
     ensures { told refusal result ≡ in_calendar (day.0 ∷ []) ((if good then to_close else to_open) (meaning (P.Calendar.codes calendar.now) (P.Amendable.rest calendar.now)) day.0 (Ok tt)) }

@@ -31,6 +31,8 @@ impl Footing {
     }
 }
 
+// A notice's days stand beside a convention here and beside an adjuster there: a struct of the two would be made for one call.
+// That roll i is one of the bond's is asked of two private calls alone: a type of places would only move it.
 impl Schedule {
     /// Whether roll i stands on one of the days.
     fn counts<C: Convention>(&self, convention: &C, days: &[Day], i: u32) -> bool
