@@ -1,12 +1,8 @@
 -- What a payment that a schedule has tells.
-use Rattle.std.proofs.Common.{◌≡◌, ℕ, zero, suc, ◌+◌, ◌-◌, ◌<◌, ◌≤◌, Bool, true, false, cond, ◌&&◌, ltb, leb, List, [], ◌∷◌, map, length, get_or, take, Some, None, Option, sym, refl, ap, ◌∙◌, arith}
+use Rattle.std.proofs.Common.{◌≡◌, ℕ, ◌-◌, ◌<◌, ◌≤◌, Bool, true, false, cond, ◌&&◌, ltb, leb, length, Some, None, Option, sym, refl, ap, ◌∙◌, arith}
 use Rattle.std.proofs.lemmas.Bool.{and_parts, leb-true, ltb-true}
-use Rattle.generation.specs.declared.roll.Roll.{Roll}
-use Rattle.generation.specs.declared.schedule.Schedule.{Schedule}
-use Rattle.generation.specs.Rolls.{RollDays}
-use Rattle.generation.specs.Views.{seen_roll}
 use Rattle.generation.specs.Payments.{Due, payment_at, payment_of}
-use Rattle.generation.specs.Schedules.{Scheduled, roll_in, seen_schedule}
+use Rattle.generation.specs.Schedules.{Scheduled, roll_in}
 use Rattle.changes.specs.Changes.{same_due, differing, altered_payment}
 
 -- payment k stands among the payments of a schedule, and falls due on the adjusted day of roll k
@@ -25,18 +21,6 @@ stands x k p e = go (leb 1 k && ltb k (length x.days)) refl e
         let q : payment_of x.terms.face x.terms.rate (roll_in x (k - 1)) (roll_in x k) ≡ p = cc in
         record { from_one = leb-true 1 k h.0; inside = ltb-true k (length x.days) h.1; due = ap (λ (d : Due). d.date) q }
     go false t s = absurd (grind arith)
-
--- the adjusted day of a roll is never late
-rolls_known : (rs : List Roll) (i : ℕ) (e : RollDays) → i < length (map seen_roll rs) → (get_or (map seen_roll rs) i e).adjusted ≤ 109572
-rolls_known [] i e l = absurd (omega arith)
-rolls_known (r ∷ rs) zero e l = omega (arith, r.adjusted.within.1)
-rolls_known (r ∷ rs) (suc i) e l = rolls_known rs i e (omega arith)
-
--- a payment falls due on a day that calendars know
-pub date_known : (s : Schedule) (k : ℕ) (p : Due) → payment_at (seen_schedule s) k ≡ Some p → p.date ≤ 109572
-date_known s k p e =
-    let h = stands (seen_schedule s) k p e in
-    omega (arith, h.due, rolls_known (take (s.rolls.inner + 2) s.days) k (record { adjusted = 0; fixing = None }) h.inside)
 
 -- a payment that altered is one of each schedule, and they differ
 pub record AlteredPair (x y : Scheduled) (k : ℕ) (p : Due × Due) : Type 0 where
