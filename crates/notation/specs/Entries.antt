@@ -5,7 +5,7 @@ use Rattle.faults.specs.Refusals.{Refusal, naming, refuse}
 use Rattle.dates.specs.declared.day.Day.{Day}
 use Rattle.bonds.specs.declared.bond.Bond.{Bond}
 use Rattle.sheet.specs.declared.call.Call.{Call}
-use Rattle.sheet.specs.declared.call.Call.TheVariants.{Enter}
+use Rattle.sheet.specs.declared.call.Call.TheVariants.{Enter, Retire}
 use Rattle.notation.specs.InputLines.{Part, remark, entry, too_long}
 use Rattle.notation.specs.Readers.{before, when, and_then}
 use Rattle.notation.specs.Numerals.{number_of}
@@ -56,9 +56,14 @@ bond_at s =
       rate = rate.0;
     }))))))))))
 
--- the letter decides: B (66) enters a bond
+-- a bond's number
+abbrev pub retired_at : List ℕ → Option ℕ
+retired_at s = and_then (number_at s) (λ number. at_end number.1 number.0)
+
+-- the letter decides: B (66) enters a bond, X (88) retires one
 abbrev pub entry_by : ℕ → List ℕ → Option Call
-entry_by letter s = cond (letter == 66) (option_map Enter (bond_at s)) None
+entry_by letter s =
+    cond (letter == 66) (option_map Enter (bond_at s)) (cond (letter == 88) (option_map Retire (retired_at s)) None)
 
 -- a letter, and what it wants
 abbrev pub entry_of : List ℕ → Option Call

@@ -1,7 +1,7 @@
 ghost use Rattle.std.specs.Prelude.{◌≡◌};
 ghost use Rattle.std.specs.Option.{option_map};
 ghost use Rattle.notation.specs.Readers.{Took};
-ghost use Rattle.notation.specs.Entries.{field_at, number_at, date_at, bond_at, entry_by, entry_of};
+ghost use Rattle.notation.specs.Entries.{field_at, number_at, date_at, at_end, bond_at, retired_at, entry_by, entry_of};
 
 use crate::date_text::date_of;
 use crate::numeral::number_of;
@@ -57,10 +57,7 @@ impl<'a> Fields<'a> {
         let lag = self.number()?;
         let face = self.number()?;
         let rate = self.number()?;
-        if !self.rest.is_empty() {
-            return None;
-        }
-        Some(Bond {
+        self.at_end(Bond {
             number,
             effective,
             maturity,
@@ -73,6 +70,21 @@ impl<'a> Fields<'a> {
         })
     }
 
+    /// A value, if nothing is left after it.
+    fn at_end<T: Copy>(&self, value: T) -> Option<T>
+        ensures { result ≡ at_end self.now.rest.now value }
+    {
+        self.rest.is_empty().then_some(value)
+    }
+
+    /// The number of a bond, and nothing after it.
+    fn retired(&mut self) -> Option<u64>
+        ensures { result ≡ retired_at self.old.rest.now }
+    {
+        let number = self.number()?;
+        self.at_end(number)
+    }
+
     /// The entry whose form the letter decides.
     fn entry(&mut self, letter: char) -> Option<Call>
         ensures { result ≡ entry_by letter self.old.rest.now }
@@ -80,6 +92,7 @@ impl<'a> Fields<'a> {
         // A match on the letters that begin an entry: each decides the form of what follows.
         match letter {
             'B' => self.bond().map(Call::Enter),
+            'X' => self.retired().map(Call::Retire),
             _ => None,
         }
     }

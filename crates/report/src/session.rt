@@ -1,6 +1,11 @@
+ghost use Rattle.std.specs.Result.{IsOk};
+
+use amendments::AmendmentLayer;
 use calendars::{Target, target_calendar};
 use conventions::{Convention, ModifiedFollowing};
-use faults::{Fault, TextFault};
+use dates::Day;
+use day_cache::DayCache;
+use faults::{CalendarFault, Fault, TextFault};
 use notation::{Line, Lines};
 use sheet::{Answer, Sheet};
 use std::alloc::{AllocError, Global};
@@ -8,10 +13,27 @@ use std::alloc::{AllocError, Global};
 /// The most bytes that an input may have.
 pub const LONGEST_INPUT: usize = 65_536;
 
+/// The number of the amendment layer.
+const AMENDED: u8 = 9;
+
+/// The first day that the cache has at hand: 1 January 2023.
+const CACHED_FROM: Day = Day(44_925);
+
+/// The program's calendar: a day cache over an amendment layer over T.
+type ProgramCalendar = DayCache<AmendmentLayer<Target>>;
+
+/// The program's calendar before any notice.
+fn program_calendar() -> Result<ProgramCalendar, CalendarFault>
+    ensures { IsOk result }
+{
+    let target = target_calendar()?;
+    Ok(DayCache::new(AmendmentLayer::new(target, AMENDED), CACHED_FROM))
+}
+
 /// The program's sheet, and the text that is printed.
 #[derive(Drop)]
 struct Session {
-    sheet: Sheet<Target, ModifiedFollowing>,
+    sheet: Sheet<ProgramCalendar, ModifiedFollowing>,
     out: String,
 }
 
@@ -19,7 +41,7 @@ impl Session {
     /// A session without bonds, whose text is empty; the rules of the program's calendar take all their entries.
     fn new(heap: Global) -> Session {
         Session {
-            sheet: Sheet::new(target_calendar().unwrap(), ModifiedFollowing),
+            sheet: Sheet::new(program_calendar().unwrap(), ModifiedFollowing),
             out: String::new(heap),
         }
     }

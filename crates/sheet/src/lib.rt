@@ -1,9 +1,9 @@
-//! The standing sheet: live bonds over one calendar and one convention.
+//! The standing sheet: live bonds with their schedules, over one amendable calendar and one convention.
 
 #![tactic(auto)]
 
 mod call;
-mod calls;
+mod plan;
 mod sheet;
 
 pub use call::{Answer, Call};

@@ -1,21 +1,33 @@
-ghost use Rattle.std.specs.Prelude.{◌≤◌, length, ◌≡◌};
+ghost use Rattle.std.specs.Prelude.{◌≡◌, ◌≤◌, true, length, take};
+ghost use Rattle.std.proofs.Props.{props};
+ghost use Rattle.tables.specs.Tables.{rising};
+ghost use Rattle.amendments.specs.Meanings.{meaning};
+ghost use Rattle.sheet.specs.KeptBonds.{place_number, all_live, kept, Sound};
+
+use amendments::Amendable;
+use conventions::Convention;
+use generation::Schedule;
 
 /// The most bonds that are live at once.
-pub(crate) const MOST_BONDS: usize = 32;
+const MOST_BONDS: usize = 32;
 
 /// The most rolls of all live bonds together.
-pub(crate) const MOST_ROLLS: u32 = 400;
+const MOST_ROLLS: u32 = 400;
 
-// Not the sheet of `kept_sheet` at another type: this one stands over any calendar, and keeps numbers alone.
-/// A sheet over a calendar and a convention.
+/// A sheet over an amendable calendar and a convention: the live bonds stand by rising number in the first `count` places.
 #[derive(Drop)]
-pub struct Sheet<K, C> {
-    pub(crate) calendar: K,
-    pub(crate) convention: C,
-    // A fixed array with a count, and no heap: no call fails for want of memory.
-    pub(crate) numbers: [u64; MOST_BONDS],
-    pub(crate) count: usize,
-    pub(crate) rolls: u32,
-    ghost within: { (count ≤ 32) × (length numbers ≡ 32) },
-    ghost few: { rolls ≤ 400 },
+pub struct Sheet<P: Amendable, C: Convention> {
+    calendar: P,
+    convention: C,
+    // A fixed array and a count: no call may fail for want of memory.
+    places: [Option<Schedule>; 32],
+    count: usize,
+    ghost within: { (count ≤ 32) × (length places ≡ 32) },
+    ghost full: { all_live (take count places) ≡ true },
+    ghost risen: { rising place_number 0 (take count places) ≡ true },
+    pub ghost fresh: { Sound (C.Convention.tries convention) (meaning (P.Calendar.codes calendar) (P.Amendable.rest calendar)) (kept (take count places)) } by { Prim.hlevel props },
 }
+
+mod calls;
+mod entries;
+mod readings;

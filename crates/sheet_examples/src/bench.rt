@@ -3,7 +3,7 @@ use bonds::Bond;
 use conventions::Convention;
 use dates::{CivilDate, Day};
 use faults::{CalendarFault, Fault, SheetFault};
-use kept_sheet::{Answer, Call, Sheet};
+use sheet::{Answer, Call, Sheet};
 use std::process::Abort;
 use std::test::Fail;
 

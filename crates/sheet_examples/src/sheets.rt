@@ -4,7 +4,7 @@ use conventions::{Following, ModifiedFollowing};
 use dates::Day;
 use day_cache::DayCache;
 use faults::CalendarFault;
-use kept_sheet::Sheet;
+use sheet::Sheet;
 
 /// A sheet as the program has it.
 pub(crate) type ProgramSheet = Sheet<DayCache<AmendmentLayer<Target>>, ModifiedFollowing>;
