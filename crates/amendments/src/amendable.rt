@@ -15,6 +15,12 @@ pub trait Amendable: Calendar {
     /// Its meaning beside its code now, which is the calendar's own.
     ghost rest: { Self → Rest };
 
+    /// Its own number is that of a layer.
+    ghost numbered: { (s : Self) → (1 ≤ (rest s).number) × ((rest s).number ≤ 15) };
+
+    /// No code under a day is above 15.
+    ghost small: { (s : Self) (d : ℕ) → (rest s).under d ≤ 15 };
+
     /// The code under a day.
     fn code_under(&self, day: Day) -> Result<u8, CalendarFault>
         ensures { told calendar_refusal result ≡ asked day.0 ((rest self.now).under day.0) };
@@ -45,12 +51,6 @@ pub trait Amendable: Calendar {
     fn restore(&mut self, day: Day) -> Result<(), CalendarFault>
         ensures answer { told calendar_refusal result ≡ restore_answer (rest self.old) day.0 }
         ensures after { meaning (Self.Calendar.codes self.new) (rest self.new) ≡ after_restore (meaning (Self.Calendar.codes self.old) (rest self.old)) day.0 };
-
-    /// Its own number is that of a layer.
-    ghost numbered: { (s : Self) → (1 ≤ (rest s).number) × ((rest s).number ≤ 15) };
-
-    /// No code under a day is above 15.
-    ghost small: { (s : Self) (d : ℕ) → (rest s).under d ≤ 15 };
 
     /// The entered days stand in rising order, each once.
     ghost risen: { (s : Self) → rising itself 0 (rest s).entered ≡ true };
