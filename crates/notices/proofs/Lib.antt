@@ -1,3 +1,2 @@
 pub mod OtherDays
 pub mod SecondDays
-pub mod TrialCodes

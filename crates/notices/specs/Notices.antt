@@ -1,8 +1,9 @@
 -- The four notices: what the calendar refuses of them, and what they do to it.
-use Rattle.std.specs.Prelude.{ℕ, ◌+◌, cond, List, [], ◌∷◌, length, Ok, Result, ◌==◌, nat_le}
+use Rattle.std.specs.Prelude.{ℕ, ◌+◌, ◌≤◌, cond, List, [], ◌∷◌, length, Ok, Result, ◌==◌, nat_le}
+use Rattle.std.proofs.lemmas.Bool.{cond_both}
 use Rattle.faults.specs.Refusals.{Refusal, refuse}
 use Rattle.calendars.specs.Codes.{good}
-use Rattle.amendments.specs.Meanings.{Meaning, is_entered, amended, restored, if_granted}
+use Rattle.amendments.specs.Meanings.{Meaning, is_entered, recoded, amended, restored, if_granted}
 use Rattle.notices.specs.declared.notice.Notice.{Notice}
 use Rattle.notices.specs.declared.notice.Notice.TheVariants.{Declare, Cancel, Move, Withdraw}
 
@@ -20,6 +21,19 @@ calendar_after m (Declare d) = amended m d.0 m.rest.number
 calendar_after m (Cancel d) = amended m d.0 0
 calendar_after m (Move from to) = amended (amended m from.0 0) to.0 m.rest.number
 calendar_after m (Withdraw d) = restored m d.0
+
+-- no code is above 15 with that of one day made another
+recoded_small : (codes : ℕ → ℕ) (day code : ℕ) → ((d : ℕ) → codes d ≤ 15) → code ≤ 15 → (d : ℕ) → recoded codes day code d ≤ 15
+recoded_small codes day code others one d = cond_both (d == day) code (codes d) (λ c. c ≤ 15) (λ _. one) (λ _. others d)
+
+-- nor after a notice
+pub after_small : (m : Meaning) (notice : Notice) → ((d : ℕ) → m.codes d ≤ 15) → ((d : ℕ) → m.rest.under d ≤ 15) → m.rest.number ≤ 15
+    → (d : ℕ) → (calendar_after m notice).codes d ≤ 15
+after_small m (Declare day) now under number = recoded_small m.codes day.0 m.rest.number now number
+after_small m (Cancel day) now under number = recoded_small m.codes day.0 0 now Prim.Native.Nat.zero-le
+after_small m (Move from to) now under number =
+    recoded_small (recoded m.codes from.0 0) to.0 m.rest.number (recoded_small m.codes from.0 0 now Prim.Native.Nat.zero-le) number
+after_small m (Withdraw day) now under number = recoded_small m.codes day.0 (m.rest.under day.0) now (under day.0)
 
 -- 10 for the first of the days after 31 December 2199, else what follows
 abbrev pub in_calendar : List ℕ → Result (Unit {0}) Refusal → Result (Unit {0}) Refusal

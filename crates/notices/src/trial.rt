@@ -1,30 +1,33 @@
-ghost use Rattle.std.specs.Prelude.{ℕ, ◌≤◌, ◌==◌};
-ghost use Rattle.std.proofs.lemmas.Bool.{cond_both};
-ghost use Rattle.amendments.specs.Meanings.{recoded};
+ghost use Rattle.amendments.specs.Meanings.{meaning};
+ghost use Rattle.notices.specs.Notices.{calendar_after, after_small};
 
-use calendars::{Calendar, Code};
+use crate::notice::Notice;
+use amendments::Amendable;
+use calendars::Calendar;
 use dates::Day;
 use faults::CalendarFault;
 
-/// A calendar as it would be with another code for one day.
+/// A calendar as it would be after a notice.
 #[derive(Drop)]
-pub struct Trial<'a, K> {
-    pub under: &'a K,
-    pub day: Day,
-    pub code: Code,
+pub struct Trial<'a, P> {
+    pub calendar: &'a P,
+    pub notice: Notice,
 }
 
-impl<'a, K: Calendar> Calendar for Trial<'a, K> {
-    ghost codes = { λ t. recoded (K.Calendar.codes t.under.now) t.day.0 t.code.value };
+impl<'a, P: Amendable> Calendar for Trial<'a, P> {
+    ghost codes = { λ t. (calendar_after (meaning (P.Calendar.codes t.calendar.now) (P.Amendable.rest t.calendar.now)) t.notice).codes };
 
-    ghost small = { λ t d. cond_both (d == t.day.0) t.code.value (K.Calendar.codes t.under.now d) (λ c. c ≤ 15) (λ _. t.code.small) (λ _. K.Calendar.small t.under.now d) };
+    ghost small = { λ t. after_small (meaning (P.Calendar.codes t.calendar.now) (P.Amendable.rest t.calendar.now)) t.notice (P.Calendar.small t.calendar.now) (P.Amendable.small t.calendar.now) (P.Amendable.numbered t.calendar.now).1 };
 
     fn code(&self, day: Day) -> Result<u8, CalendarFault> {
-        let code = self.under.code(day)?;
-        Ok(if day == self.day {
-            self.code.value()
-        } else {
-            code
-        })
+        let code = self.calendar.code(day)?;
+        match self.notice {
+            Notice::Declare(closed) | Notice::Move(_, closed) if day == closed => {
+                Ok(self.calendar.number())
+            }
+            Notice::Cancel(opened) | Notice::Move(opened, _) if day == opened => Ok(0),
+            Notice::Withdraw(restored) if day == restored => self.calendar.code_under(day),
+            _ => Ok(code),
+        }
     }
 }
