@@ -1,5 +1,6 @@
 -- The payments of a bond that differ between two schedules of it.
 use Rattle.std.specs.Prelude.{ℕ, ◌-◌, Bool, true, false, cond, ◌&&◌, List, [], ◌∷◌, ◌++◌, length, drop, Some, None, Option, ◌==◌, nat_le}
+use Rattle.std.specs.Option.{option_map}
 use Rattle.conventions.specs.Turns.{upward}
 use Rattle.generation.specs.Schedules.{Scheduled}
 use Rattle.generation.specs.declared.payment.Payment.{Payment}
@@ -83,3 +84,7 @@ seen_change c =
       closes_old = c.closes_old;
       closed_new = c.closed_new;
     }
+
+-- what a place of a list holds
+abbrev pub seen_place : Option Change → Option Altered
+seen_place p = option_map seen_change p

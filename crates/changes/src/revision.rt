@@ -1,7 +1,7 @@
-ghost use Rattle.std.specs.Prelude.{◌≡◌, ℕ, ◌≤◌, map, length};
+ghost use Rattle.std.specs.Prelude.{◌≡◌, ℕ, ◌≤◌, map, length, Some};
 ghost use Rattle.std.specs.Option.{option_map};
 ghost use Rattle.generation.specs.Schedules.{seen_schedule};
-ghost use Rattle.changes.specs.Changes.{seen_pair, altered_payment, changes_in, written, written_count, seen_change};
+ghost use Rattle.changes.specs.Changes.{seen_pair, altered_payment, changes_in, written, written_count, seen_place};
 ghost use Rattle.changes.specs.ChangeLaws.{ListedExactly};
 
 use crate::change::Change;
@@ -36,13 +36,14 @@ impl Revision<'_> {
     }
 
     /// Writes the payments that alter into a list, from its start; nothing if they do not fit.
+    // A free place holds None: no change can be made up to fill a list with.
     pub fn write<K: Calendar, T: Calendar>(
         &self,
         turn: &Turn<'_, K, T>,
-        list: &mut [Change],
+        list: &mut [Option<Change>],
     ) -> Option<usize>
-        ensures answer { result ≡ written_count (changes_in (K.Calendar.codes turn.now.before.now) (T.Calendar.codes turn.now.after.now) (seen_schedule self.now.old.now) (seen_schedule self.now.new.now)) (map seen_change list.old) }
-        ensures list { map seen_change list.new ≡ written (changes_in (K.Calendar.codes turn.now.before.now) (T.Calendar.codes turn.now.after.now) (seen_schedule self.now.old.now) (seen_schedule self.now.new.now)) (map seen_change list.old) }
+        ensures answer { result ≡ written_count (map Some (changes_in (K.Calendar.codes turn.now.before.now) (T.Calendar.codes turn.now.after.now) (seen_schedule self.now.old.now) (seen_schedule self.now.new.now))) (map seen_place list.old) }
+        ensures list { map seen_place list.new ≡ written (map Some (changes_in (K.Calendar.codes turn.now.before.now) (T.Calendar.codes turn.now.after.now) (seen_schedule self.now.old.now) (seen_schedule self.now.new.now))) (map seen_place list.old) }
         ensures law { ListedExactly (K.Calendar.codes turn.now.before.now) (T.Calendar.codes turn.now.after.now) (seen_schedule self.now.old.now) (seen_schedule self.now.new.now) }
     {
         if self.count() > list.len() {
@@ -53,7 +54,7 @@ impl Revision<'_> {
         let mut n = 0;
         for k in 1..self.old.count() {
             if let Some((was, becomes)) = self.altered(k) {
-                list[n] = turn.change(self.old.number(), k, was, becomes);
+                list[n] = Some(turn.change(self.old.number(), k, was, becomes));
                 n += 1;
             }
         }
