@@ -10,3 +10,5 @@ pub mod FirstFault
 pub mod ScheduleLengths
 pub mod Retried
 pub mod InPlace
+pub mod Nearness
+pub mod Widest

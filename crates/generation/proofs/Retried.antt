@@ -7,7 +7,7 @@ use Rattle.calendars.specs.Rules.{any}
 use Rattle.conventions.specs.Tries.{served}
 use Rattle.conventions.specs.Turns.{upward}
 use Rattle.bonds.specs.Rolls.{rolls, lag_of}
-use Rattle.generation.specs.Rolls.{Span, footing, roll_of, Holds}
+use Rattle.generation.specs.Rolls.{RollDays, Span, footing, roll_of, roll_answer, Holds}
 use Rattle.generation.specs.BondRolls.{bond_roll}
 use Rattle.generation.specs.Granting.{followed, each_granted}
 use Rattle.generation.specs.Schedules.{Scheduled, roll_in, scheduled, all_rolls, schedule_answer}
@@ -36,19 +36,20 @@ same_answers f g (suc n) i h =
     λ j. followed (here j) (more j)
 
 module _ (good other : ℕ → Bool) (tries : ℕ → List ℕ) (days : List ℕ) (same : SameButFor days good other) where
-  -- a roll that does not count
+  -- a roll whose footing holds none of the days
+  pub roll_stays : (u lag : ℕ) (names : List ℕ) (r : RollDays) → holds_one (footing u (tries u) r) days ≡ false → roll_answer good tries u lag names ≡ Ok r
+      → roll_answer other tries u lag names ≡ Ok r
+  roll_stays u lag names r none e = go (served u) e
+    where
+      go : (b : Bool) → cond b (roll_of good (tries u) lag names) (refuse 45 []) ≡ Ok r → cond b (roll_of other (tries u) lag names) (refuse 45 []) ≡ Ok r
+      go true s = footing_holds good other u (tries u) lag names r s (λ d h. same d (none_inside (footing u (tries u) r) days d none h))
+      go false s = absurd (grind arith)
+
+  -- so a roll that does not count
   stays : (x : Scheduled) (i : ℕ) → counts tries days x i ≡ false → bond_roll good tries x.terms i ≡ Ok (roll_in x i)
       → bond_roll other tries x.terms i ≡ Ok (roll_in x i)
   unfolding counts
-  stays x i c e = go (served (get_or (rolls x.terms) i 0)) e
-    where
-      go : (b : Bool)
-          → cond b (roll_of good (tries (get_or (rolls x.terms) i 0)) (lag_of x.terms i) (x.terms.number ∷ i ∷ get_or (rolls x.terms) i 0 ∷ [])) (refuse 45 []) ≡ Ok (roll_in x i)
-          → cond b (roll_of other (tries (get_or (rolls x.terms) i 0)) (lag_of x.terms i) (x.terms.number ∷ i ∷ get_or (rolls x.terms) i 0 ∷ [])) (refuse 45 []) ≡ Ok (roll_in x i)
-      go true s =
-          footing_holds good other (get_or (rolls x.terms) i 0) (tries (get_or (rolls x.terms) i 0)) (lag_of x.terms i) (x.terms.number ∷ i ∷ get_or (rolls x.terms) i 0 ∷ []) (roll_in x i) s
-          (λ d h. same d (none_inside (footing (get_or (rolls x.terms) i 0) (tries (get_or (rolls x.terms) i 0)) (roll_in x i)) days d c h))
-      go false s = absurd (grind arith)
+  stays x i c e = roll_stays (get_or (rolls x.terms) i 0) (lag_of x.terms i) (x.terms.number ∷ i ∷ get_or (rolls x.terms) i 0 ∷ []) (roll_in x i) c e
 
   -- tried anew or left, it is the roll that is generated afresh
   anew : (x : Scheduled) (i : ℕ) → bond_roll good tries x.terms i ≡ Ok (roll_in x i) → retried_roll other tries days x i ≡ bond_roll other tries x.terms i

@@ -5,7 +5,7 @@ use Rattle.generation.specs.Rolls.{up_to, lowest, highest, span, Holds}
 use Rattle.generation.specs.Laws.{RunWasTried}
 
 -- the days tried up to a day are the first of the list
-up_to_front : (a : ℕ) (ds : List ℕ) → up_to a ds ≡ take (length (up_to a ds)) ds
+pub up_to_front : (a : ℕ) (ds : List ℕ) → up_to a ds ≡ take (length (up_to a ds)) ds
 unfolding up_to
 up_to_front a [] = refl
 up_to_front a (d ∷ ds) = ap (λ (xs : List ℕ). d ∷ xs) (go (eqb d a) (up_to_front a ds))
@@ -21,13 +21,13 @@ up_to_first u a [] e = absurd (grind arith)
 up_to_first u a (d ∷ ds) e = let f : d ≡ u = cc in (0, omega arith, f)
 
 -- a bound of all days is one of the lowest and of the highest
-above_all : (b u : ℕ) (ds : List ℕ) → b ≤ u → ((d : ℕ) → Among d ds → b ≤ d) → b ≤ lowest u ds
+pub above_all : (b u : ℕ) (ds : List ℕ) → b ≤ u → ((d : ℕ) → Among d ds → b ≤ d) → b ≤ lowest u ds
 unfolding lowest
 above_all b u [] h g = h
 above_all b u (d ∷ ds) h g =
     above_all b (min u d) ds (omega (arith, g d (0, omega arith, refl))) (λ x m. g x (suc m.0, omega (arith, m.1), m.2))
 
-below_all : (b u : ℕ) (ds : List ℕ) → u ≤ b → ((d : ℕ) → Among d ds → d ≤ b) → highest u ds ≤ b
+pub below_all : (b u : ℕ) (ds : List ℕ) → u ≤ b → ((d : ℕ) → Among d ds → d ≤ b) → highest u ds ≤ b
 unfolding highest
 below_all b u [] h g = h
 below_all b u (d ∷ ds) h g =

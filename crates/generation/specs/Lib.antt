@@ -1,6 +1,7 @@
 pub mod Rolls
 pub mod Views
 pub mod Laws
+pub mod NearRolls
 pub mod BondRolls
 pub mod Granting
 pub mod Schedules

@@ -1,10 +1,10 @@
 -- Rolls tried anew after some days of the calendar have changed.
-use Rattle.std.specs.Prelude.{◌≡◌, ℕ, ◌+◌, Bool, false, cond, ◌&&◌, List, [], ◌∷◌, length, Ok, Result, nat_eq, nat_le, slice_index}
+use Rattle.std.specs.Prelude.{◌≡◌, ℕ, ◌+◌, ◌-◌, Bool, false, cond, ◌&&◌, List, [], ◌∷◌, length, Ok, Result, nat_eq, nat_le, slice_index}
 use Rattle.faults.specs.Refusals.{Refusal}
 use Rattle.calendars.specs.Rules.{any}
 use Rattle.conventions.specs.Turns.{upward}
 use Rattle.bonds.specs.Rolls.{rolls}
-use Rattle.generation.specs.Rolls.{RollDays, Span, footing}
+use Rattle.generation.specs.Rolls.{RollDays, Span, stretched, footing}
 use Rattle.generation.specs.BondRolls.{bond_roll}
 use Rattle.generation.specs.Granting.{each_granted}
 use Rattle.generation.specs.Schedules.{Scheduled, roll_in, scheduled, schedule_answer}
@@ -16,6 +16,10 @@ inside span d = nat_le span.low d && nat_le d span.high
 -- a span holds one of the days
 abbrev pub holds_one : Span → List ℕ → Bool
 holds_one span days = any (inside span) days
+
+-- from 60 days before a roll's adjusted day, or from its fixing if that is earlier, to 60 days after: so far a footing can go
+abbrev pub widest : RollDays → Span
+widest r = record { low = stretched (r.adjusted - 60) r.fixing; high = r.adjusted + 60 }
 
 -- roll i of a schedule counts: its footing holds one of the days
 unfoldable pub counts : (ℕ → List ℕ) → List ℕ → Scheduled → ℕ → Bool

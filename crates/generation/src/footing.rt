@@ -4,12 +4,16 @@ ghost use Rattle.std.specs.Result.{result_map_both};
 ghost use Rattle.faults.specs.Refusals.{told, generation_refusal};
 ghost use Rattle.generation.specs.Rolls.{stretched, footing_answer, span_answer};
 ghost use Rattle.generation.specs.Laws.{FootingHolds, RunWasTried};
+ghost use Rattle.generation.specs.Retrying.{widest};
 ghost use Rattle.generation.specs.Views.{number_of, seen_roll, seen_footing};
 
 use crate::roll::Roll;
 use conventions::{Convention, Unadjusted};
 use dates::Day;
 use faults::GenerationFault;
+
+/// How far from a roll's adjusted day a day tried can lie: both lie within 30 days of the unadjusted one.
+const FARTHEST: u32 = 60;
 
 /// The days on which a roll stands, from the lowest to the highest.
 #[derive(Clone, Copy)]
@@ -35,6 +39,18 @@ impl Footing {
     {
         let low = fixing.map_or(self.low, |day| self.low.min(day));
         Footing { low, ..self }
+    }
+
+    /// The widest that a roll of this adjusted day and this fixing can have.
+    pub(crate) fn widest(roll: Roll) -> Footing
+        ensures { seen_footing result ≡ widest (seen_roll roll) }
+    {
+        let adjusted = roll.adjusted.day().0;
+        let tried = Footing {
+            low: Day(adjusted - FARTHEST),
+            high: Day(adjusted + FARTHEST),
+        };
+        tried.back_to(roll.fixing)
     }
 }
 

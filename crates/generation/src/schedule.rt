@@ -1,4 +1,6 @@
 ghost use Rattle.std.specs.Prelude.{◌≡◌, length};
+ghost use Rattle.std.proofs.Props.{props};
+ghost use Rattle.generation.specs.NearRolls.{NearRolls};
 
 use crate::roll::Roll;
 use bonds::Rolls;
@@ -10,6 +12,7 @@ pub struct Schedule {
     // A fixed array: no call may fail for want of memory.
     days: [Roll; 100],
     ghost size: { length days ≡ 100 },
+    ghost near: { NearRolls rolls.terms days } by { Prim.hlevel props },
 }
 
 mod calls;

@@ -39,12 +39,17 @@ impl Schedule {
         requires { i < self.now.rolls.inner + 2 }
         ensures { result ≡ counts (C.Convention.tries convention.now) (map number_of days.now) (seen_schedule self.now) i }
     {
+        // `as`, here and below: no `From` makes a usize of a u32.
+        let roll = self.days[i as usize];
+        // First what is read off the roll: far from the days, no month has to be shifted and no convention asked.
+        if !Footing::widest(roll).holds_one(days) {
+            return false;
+        }
         // A `let`: `is_some_and` round `is_ok_and` would nest two closures.
         let Some(u) = self.rolls.day(i) else {
             return false;
         };
-        // `as`, here and below: no `From` makes a usize of a u32.
-        let kept = footing_of(convention, u, self.days[i as usize]);
+        let kept = footing_of(convention, u, roll);
         kept.is_ok_and(|footing| footing.holds_one(days))
     }
 
