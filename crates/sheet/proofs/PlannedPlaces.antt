@@ -16,6 +16,11 @@ kept_push [] s = refl
 kept_push (None ∷ ps) s = kept_push ps s
 kept_push (Some r ∷ ps) s = ap (λ (xs : List Scheduled). seen_schedule r ∷ xs) (kept_push ps s)
 
+-- the schedule in place i stands before those in later places
+pub next_kept : (ps : List Place) (i : ℕ) → i < length ps → (d : Place) (s : Schedule) → get_or ps i d ≡ Some s → kept (drop i ps) ≡ seen_schedule s ∷ kept (drop (i + 1) ps)
+unfolding kept
+next_kept ps i inside d s here = ap kept (drop_more ps i d inside ∙ ap (λ (p : Place). p ∷ drop (i + 1) ps) here)
+
 module _ (f : Scheduled → Result Scheduled Refusal) where
   -- the first i places are done, the others are still to do
   abbrev pub done : ℕ → List Place → Result (List Scheduled) Refusal
@@ -27,8 +32,7 @@ module _ (f : Scheduled → Result Scheduled Refusal) where
 
   module _ (ps : List Place) (i : ℕ) (inside : i < length ps) (d : Place) (s : Schedule) (here : get_or ps i d ≡ Some s) where
     next : kept (drop i ps) ≡ seen_schedule s ∷ kept (drop (i + 1) ps)
-    unfolding kept
-    next = ap kept (drop_more ps i d inside ∙ ap (λ (p : Place). p ∷ drop (i + 1) ps) here)
+    next = next_kept ps i inside d s here
 
     -- the next is granted, and stands in its place
     pub one_done : (t : Schedule) → f (seen_schedule s) ≡ Ok (seen_schedule t) → done (i + 1) (set ps i (Some t)) ≡ done i ps

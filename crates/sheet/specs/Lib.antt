@@ -1,9 +1,11 @@
 pub mod FreshSheets
 pub mod Entries
 pub mod Readings
-pub mod Steps
 pub mod Notices
+pub mod Steps
 pub mod KeptBonds
 pub mod Plans
 pub mod SheetViews
+pub mod EveryUse
 pub mod AnswerTexts
+pub mod RunViews

@@ -2,6 +2,7 @@ ghost use Rattle.std.specs.Prelude.{Some};
 ghost use Rattle.sheet.specs.AnswerTexts.{answer_text};
 
 use bonds::Bond;
+use notices::Notice;
 use std::fmt;
 
 /// What can be asked of a sheet.
@@ -11,6 +12,15 @@ pub enum Call {
     Enter(Bond),
     /// Retire the bond of a number.
     Retire(u64),
+    /// Amend the calendar.
+    Amend(Notice),
+}
+
+/// What a notice comes to: how many rolls stood on one of its days, and how many payments altered.
+#[derive(Clone, Copy, PartialEq, Eq, Debug)]
+pub struct Counts {
+    pub rolls: u32,
+    pub changes: usize,
 }
 
 /// What a granted call answers.
@@ -20,6 +30,8 @@ pub enum Answer {
     Entered(u64, u32),
     /// The bond of this number is live no more.
     Retired(u64),
+    /// The calendar is amended by this notice.
+    Amended(Notice, Counts),
 }
 
 impl fmt::Display for Answer {
@@ -29,6 +41,12 @@ impl fmt::Display for Answer {
         match self {
             Answer::Entered(number, rolls) => write!(f, "entered {number} {rolls}"),
             Answer::Retired(number) => write!(f, "retired {number}"),
+            Answer::Amended(notice, Counts { rolls, changes }) => match notice {
+                Notice::Declare(_) => write!(f, "declared {rolls} {changes}"),
+                Notice::Cancel(_) => write!(f, "cancelled {rolls} {changes}"),
+                Notice::Move(_, _) => write!(f, "moved {rolls} {changes}"),
+                Notice::Withdraw(_) => write!(f, "withdrawn {rolls} {changes}"),
+            },
         }
     }
 }

@@ -4,7 +4,9 @@
 
 mod call;
 mod plan;
+mod run;
 mod sheet;
 
-pub use call::{Answer, Call};
+pub use call::{Answer, Call, Counts};
+pub use run::{Outcome, Run, make_calls};
 pub use sheet::Sheet;

@@ -1,4 +1,5 @@
-ghost use Rattle.std.specs.Prelude.{◌≡◌, ◌≤◌, true, map, length, take, IfOk};
+ghost use Rattle.std.specs.Prelude.{◌≡◌, ℕ, ◌*◌, ◌≤◌, true, map, length, take, Some, IfOk};
+ghost use Rattle.std.specs.Option.{option_map};
 ghost use Rattle.std.specs.Result.{result_map_both};
 ghost use Rattle.faults.specs.Refusals.{generation_refusal};
 ghost use Rattle.calendars.specs.Codes.{good};
@@ -6,10 +7,12 @@ ghost use Rattle.generation.specs.Granting.{each_granted};
 ghost use Rattle.generation.specs.Retrying.{retried};
 ghost use Rattle.generation.specs.Views.{number_of};
 ghost use Rattle.sheet.specs.KeptBonds.{kept, all_live};
-ghost use Rattle.sheet.specs.Notices.{counted};
-ghost use Rattle.sheet.specs.Plans.{SameBonds};
+ghost use Rattle.changes.specs.Changes.{seen_place, written, written_count};
+ghost use Rattle.sheet.specs.Notices.{counted, changes};
+ghost use Rattle.sheet.specs.Plans.{SameBonds, both};
 
 use calendars::Calendar;
+use changes::{Change, Revision, Turn};
 use conventions::{Adjuster, Convention};
 use dates::Day;
 use faults::GenerationFault;
@@ -51,8 +54,60 @@ pub(crate) fn retry_places<K: Calendar, C: Convention>(
     // A test in the loop: of places that `iter_mut().flatten()` lends, a proof knows nothing afterwards.
     for place in live.iter_mut() {
         if let Some(schedule) = place {
-            *schedule = schedule.retry(adjuster, days)?;
+            if schedule.counted(adjuster.convention, days) > 0 {
+                *schedule = schedule.retry(adjuster, days)?;
+            }
         }
     }
     Ok(anew)
+}
+
+/// The schedule in a place and the one that takes its place, if there are two.
+fn revision_of<'a>(was: &'a Option<Schedule>, becomes: &'a Option<Schedule>) -> Option<Revision<'a>>
+    ensures { option_map (λ r. (r.old.now, r.new.now)) result ≡ both was.now becomes.now }
+{
+    let old = was.as_ref()?;
+    let new = becomes.as_ref()?;
+    Some(Revision { old, new })
+}
+
+/// How many payments alter from the schedules in some places to those that take their places.
+fn altered_count(old: &[Option<Schedule>], new: &[Option<Schedule>]) -> usize
+    requires few { (length old.now ≤ 32) × (length new.now ≡ length old.now) }
+    requires live { (all_live old.now ≡ true) × (all_live new.now ≡ true) }
+    ensures is { (before after : ℕ → ℕ) → result ≡ length (changes before after (kept old.now) (kept new.now)) }
+    ensures bound { result ≤ 3168 }
+{
+    let mut count = 0;
+    for (was, becomes) in old.iter().zip(new) {
+        if let Some(revision) = revision_of(was, becomes) {
+            count += revision.count();
+        }
+    }
+    count
+}
+
+/// Writes these payments into a list, bond after bond; nothing if they do not fit.
+pub(crate) fn write_changes<K: Calendar, T: Calendar>(
+    old: &[Option<Schedule>],
+    new: &[Option<Schedule>],
+    turn: &Turn<'_, K, T>,
+    list: &mut [Option<Change>],
+) -> Option<usize>
+    requires few { (length old.now ≤ 32) × (length new.now ≡ length old.now) }
+    requires live { (all_live old.now ≡ true) × (all_live new.now ≡ true) }
+    ensures answer { result ≡ written_count (map Some (changes (K.Calendar.codes turn.now.before.now) (T.Calendar.codes turn.now.after.now) (kept old.now) (kept new.now))) (map seen_place list.old) }
+    ensures list { map seen_place list.new ≡ written (map Some (changes (K.Calendar.codes turn.now.before.now) (T.Calendar.codes turn.now.after.now) (kept old.now) (kept new.now))) (map seen_place list.old) }
+{
+    if altered_count(old, new) > list.len() {
+        return None;
+    }
+    let mut n = 0;
+    for (was, becomes) in old.iter().zip(new) {
+        if let Some(revision) = revision_of(was, becomes) {
+            // They fit, as the count says; so the proof that this never stops.
+            n += revision.write(turn, &mut list[n..]).unwrap();
+        }
+    }
+    Some(n)
 }

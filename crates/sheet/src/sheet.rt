@@ -28,6 +28,7 @@ pub struct Sheet<P: Amendable, C: Convention> {
     pub ghost fresh: { Sound (C.Convention.tries convention) (meaning (P.Calendar.codes calendar) (P.Amendable.rest calendar)) (kept (take count places)) } by { Prim.hlevel props },
 }
 
+mod amending;
 mod calls;
 mod entries;
 mod readings;

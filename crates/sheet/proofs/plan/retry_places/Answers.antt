@@ -10,7 +10,8 @@ use Rattle.bonds.specs.declared.terms.Terms.{Terms}
 use Rattle.sheet.specs.KeptBonds.{Place, kept, all_live, place_number}
 use Rattle.sheet.proofs.EnteredBonds.{its_terms}
 use Rattle.sheet.proofs.PlannedPlaces.{done, none_done, one_done, one_refused, all_done, live_set, numbers_set, none_free}
-use Rattle.sheet.proofs.plan.retry_places.Goals.{in-Some+in_ok-schedule, in_default}
+use Rattle.sheet.proofs.Uncounted.{uncounted}
+use Rattle.sheet.proofs.plan.retry_places.Goals.{in-Some+then-counted-gt0+in_ok-schedule, in-Some+else-counted-gt0, in_default}
 use Rattle.sheet.proofs.plan.retry_places.Goals as goal
 
 pub loop-place-init : goal.loop-place-init
@@ -29,13 +30,22 @@ loop-place-preserved g c =
     let i = c.loop-place.place-index in
     let d = c.place-item.result in
     elim c.match-place.branch [
-      | in-Some+in_ok-schedule w ↦
+      | in-Some+then-counted-gt0+in_ok-schedule w ↦
           let s = w.in-Some.schedule in
           let t = w.in_ok-schedule.field-0 in
           let own = ap (λ (x : Terms). x.number) (its_terms (seen_schedule s).terms _ (seen_schedule t) (sym w.in_ok-schedule.ensures.is)) in (
             ap (done f (i + 1)) w.live-is ∙ one_done f ps i (omega arith) d s w.in-Some.is t (sym w.in_ok-schedule.ensures.is) ∙ c.loop-place.invariant.0,
             ap all_live w.live-is ∙ live_set ps i t c.loop-place.invariant.1,
             ap (map place_number) w.live-is ∙ numbers_set ps i d t (own ∙ ap place_number (sym w.in-Some.is)) ∙ c.loop-place.invariant.2,
+          )
+      | in-Some+else-counted-gt0 w ↦
+          let s = w.in-Some.schedule in
+          let none =
+          uncounted (λ d. good (g.K.Calendar.codes c.args.adjuster.now.calendar.now d)) (g.C.Convention.tries c.args.adjuster.now.convention.now) (map number_of c.args.days.now) (seen_schedule s)
+          (omega (arith, w.counted.ensures.is, w.if-counted-gt0.false)) in (
+            ap (done f (i + 1)) w.live-is ∙ one_done f ps i (omega arith) d s w.in-Some.is s none ∙ c.loop-place.invariant.0,
+            ap all_live w.live-is ∙ live_set ps i s c.loop-place.invariant.1,
+            ap (map place_number) w.live-is ∙ numbers_set ps i d s (ap place_number (sym w.in-Some.is)) ∙ c.loop-place.invariant.2,
           )
       | in_default w ↦ absurd (none_free ps i d c.loop-place.invariant.1 (omega arith) w.in_default.is)
     ]
