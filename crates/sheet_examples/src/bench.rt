@@ -1,5 +1,6 @@
 use amendments::Amendable;
 use bonds::Bond;
+use changes::Change;
 use conventions::Convention;
 use dates::{CivilDate, Day};
 use faults::{CalendarFault, Fault, SheetFault};
@@ -38,6 +39,18 @@ pub(crate) const MONTH: Draft = Draft {
     rate: 1_000,
 };
 
+/// Two periods of half a year, to the month's end.
+pub(crate) const HALVES: Draft = Draft {
+    number: 7,
+    effective: (2023, 9, 30),
+    maturity: (2024, 9, 30),
+    months: 6,
+    mark: 1,
+    face: 100_000_000,
+    rate: 4_500,
+    ..MONTH
+};
+
 /// A payment as it is expected.
 #[derive(Clone, Copy)]
 pub(crate) struct Due {
@@ -67,7 +80,7 @@ impl Draft {
         }
     }
 
-    fn bond(self) -> Result<Bond, CalendarFault> {
+    pub(crate) fn bond(self) -> Result<Bond, CalendarFault> {
         Ok(Bond {
             number: self.number,
             effective: day_of(self.effective)?,
@@ -82,16 +95,23 @@ impl Draft {
     }
 }
 
-/// A sheet on which calls are made, each with what has to come of it.
+/// A sheet on which calls are made, each with what has to come of it, and the list that notices bring.
 #[derive(Drop)]
 pub(crate) struct Bench<'a, R, P: Amendable, C: Convention> {
     rt: &'a R,
     sheet: Sheet<P, C>,
+    list: [Option<Change>; 4],
 }
+
+mod noticing;
 
 impl<'a, R: Abort, P: Amendable, C: Convention> Bench<'a, R, P, C> {
     pub(crate) fn new(rt: &'a R, sheet: Sheet<P, C>) -> Bench<'a, R, P, C> {
-        Bench { rt, sheet }
+        Bench {
+            rt,
+            sheet,
+            list: [None; 4],
+        }
     }
 
     fn check_entry(&mut self, draft: Draft, answer: Result<u32, Fault>) -> Result<(), Fail> {
@@ -167,7 +187,7 @@ impl<'a, R: Abort, P: Amendable, C: Convention> Bench<'a, R, P, C> {
     }
 
     fn check_call(&mut self, call: Call, answer: Answer) -> Result<(), Fail> {
-        assert_eq!(self.rt; self.sheet.call(call), Ok(answer));
+        assert_eq!(self.rt; self.sheet.call(call, &mut self.list), Ok(answer));
         Ok(())
     }
 

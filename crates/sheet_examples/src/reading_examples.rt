@@ -1,18 +1,6 @@
-use crate::bench::{Bench, Draft, Due, MONTH};
+use crate::bench::{Bench, Draft, Due, HALVES, MONTH};
 use crate::sheets::program_sheet;
 use std::test::Fail;
-
-/// Two periods of half a year, to the month's end.
-const HALVES: Draft = Draft {
-    number: 7,
-    effective: (2023, 9, 30),
-    maturity: (2024, 9, 30),
-    months: 6,
-    mark: 1,
-    face: 100_000_000,
-    rate: 4_500,
-    ..MONTH
-};
 
 #[test]
 fn payments_of_a_bond(rt: HostRuntime) -> Result<(), Fail> {

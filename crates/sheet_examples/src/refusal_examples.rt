@@ -1,5 +1,6 @@
 use crate::bench::{Bench, Draft, Due, MONTH};
 use crate::sheets::{closed_weeks_sheet, closed_winter_sheet, program_sheet, winter};
+use conventions::Following;
 use faults::{Fault, GenerationFault, RollAt, SheetFault};
 use std::test::Fail;
 
@@ -85,7 +86,7 @@ fn days_before_the_rest(rt: HostRuntime) -> Result<(), Fail> {
 
 #[test]
 fn no_good_day(rt: HostRuntime) -> Result<(), Fail> {
-    let mut bench = Bench::new(&rt, closed_weeks_sheet());
+    let mut bench = Bench::new(&rt, closed_weeks_sheet(Following));
     bench.refused(1, 101, SheetFault::ManyRolls(1))?;
     // 15 January 2000
     bench.refuses(

@@ -1,23 +1,30 @@
 use amendments::AmendmentLayer;
 use calendars::{Listed, Target, Weekly, target_calendar};
-use conventions::{Following, ModifiedFollowing};
+use conventions::{Convention, Following, ModifiedFollowing};
 use dates::Day;
 use day_cache::DayCache;
 use faults::CalendarFault;
 use sheet::Sheet;
 
+/// A calendar as the program has it.
+pub(crate) type ProgramCalendar = DayCache<AmendmentLayer<Target>>;
+
+pub(crate) fn program_calendar() -> Result<ProgramCalendar, CalendarFault> {
+    let layer = AmendmentLayer::new(target_calendar()?, 9);
+    Ok(DayCache::new(layer, Day(44_925)))
+}
+
 /// A sheet as the program has it.
-pub(crate) type ProgramSheet = Sheet<DayCache<AmendmentLayer<Target>>, ModifiedFollowing>;
+pub(crate) type ProgramSheet = Sheet<ProgramCalendar, ModifiedFollowing>;
 
 pub(crate) fn program_sheet() -> Result<ProgramSheet, CalendarFault> {
-    let layer = AmendmentLayer::new(target_calendar()?, 9);
-    Ok(Sheet::new(DayCache::new(layer, Day(44_925)), ModifiedFollowing))
+    Ok(Sheet::new(program_calendar()?, ModifiedFollowing))
 }
 
 /// A sheet over a calendar that has no good day.
-pub(crate) fn closed_weeks_sheet() -> Sheet<AmendmentLayer<Weekly>, Following> {
+pub(crate) fn closed_weeks_sheet<C: Convention>(convention: C) -> Sheet<AmendmentLayer<Weekly>, C> {
     let layer = AmendmentLayer::new(Weekly::new([true; 7], 1), 9);
-    Sheet::new(layer, Following)
+    Sheet::new(layer, convention)
 }
 
 /// From 17 December 1999 to 12 February 2000.
