@@ -1,20 +1,16 @@
 -- A numeral is read as n exactly if it is what is written of n.
-use Rattle.std.proofs.Common.{◌≡◌, ℕ, ◌+◌, ◌*◌, pow-suc, add-one, ◌^◌, ◌<◌, ◌≤◌, Bool, true, false, List, length, get_or, Some, decimal, Option, sym, refl, ap, ◌∙◌, subst, arith, rules}
+use Rattle.std.proofs.Common.{◌≡◌, ℕ, ◌+◌, ◌*◌, pow-suc, add-one, ◌^◌, ◌<◌, ◌≤◌, true, List, length, get_or, Some, decimal, Option, sym, ap, ◌∙◌, subst, arith, rules}
 use native.Mathlib.Nat.{pow-le-pow_right}
 use Rattle.std.specs.Str.{all_ascii_digits}
 use Rattle.std.proofs.lemmas.Str.Parse.{IsNumeralModel, numerals_by_fold, digits_value_short}
 use Rattle.std.proofs.lemmas.Fmt.{digits_decimal, digits_value-decimal, length-decimal-le, decimal_nonempty, first_decimal, decimal-digits_value, decimal_digit}
 use Rattle.std.proofs.lemmas.Bool.Decides.{nat_tests}
-use Rattle.notation.specs.Readers.{when, Exactly}
+use Rattle.notation.specs.Readers.{Exactly}
+use Rattle.notation.proofs.Options.{when_some}
 use Rattle.notation.specs.Numerals.{read_on, digits_of, number_of, plain, Numeral}
 
 pub own : IsNumeralModel (λ ds. all_ascii_digits ds ≡ true) (read_on 0)
 own = numerals_by_fold _ (search rules) read_on (search rules)
-
--- what a test and a value under it come from
-pub when_some : {A : Type 0} (b : Bool) (o : Option A) (x : A) → when b o ≡ Some x → (b ≡ true) × (o ≡ Some x)
-when_some true o x e = (refl, e)
-when_some false o x e = absurd (cc)
 
 pub digits_some : (bs : List ℕ) (n : ℕ) → digits_of bs ≡ Some n → (all_ascii_digits bs ≡ true) × (read_on 0 bs ≡ n)
 digits_some bs n e = let p = when_some (all_ascii_digits bs) (Some (read_on 0 bs)) n e in (p.0, let s = p.1 in cc)

@@ -1,7 +1,8 @@
 -- Dates as they are written.
-use Rattle.std.specs.Prelude.{◌≡◌, ℕ, ◌+◌, ◌/◌, ◌%◌, ◌≤◌, Bool, ◌&&◌, List, [], ◌∷◌, ◌++◌, length, take, drop, Some, Option, ◌==◌, slice_index}
+use Rattle.std.specs.Prelude.{◌≡◌, ℕ, ◌≤◌, Bool, ◌&&◌, List, length, take, drop, Some, Option, ◌==◌, slice_index}
 use Rattle.std.specs.Result.{result_ok}
 use Rattle.dates.specs.Civil.{day_answer, civil_at}
+use Rattle.dates.specs.DateText.{date_text}
 use Rattle.dates.specs.declared.civil_date.CivilDate.{CivilDate}
 use Rattle.dates.specs.declared.day.Day.{Day}
 use Rattle.notation.specs.Readers.{when, and_then}
@@ -24,14 +25,6 @@ civil_of bs =
 abbrev pub date_of : List ℕ → Option Day
 date_of bs = and_then (civil_of bs) (λ date. result_ok (day_answer date))
 
--- a number below 100 in two digits
-abbrev pub two_digits : ℕ → List ℕ
-two_digits n = (48 + n / 10) ∷ (48 + n % 10) ∷ []
-
--- a civil date as it is written
-abbrev pub date_text : CivilDate → List ℕ
-date_text c = (two_digits (c.year / 100) ++ two_digits (c.year % 100)) ++ (45 ∷ (two_digits c.month ++ (45 ∷ two_digits c.day)))
-
--- the civil date of a day up to 31 December 2199, as it is written
+-- the civil date of a day up to 31 December 2199, as it is printed
 abbrev pub Dated : List ℕ → Day → Type 0
 Dated bs d = (d.0 ≤ 109572) × (bs ≡ date_text (civil_at d.0))

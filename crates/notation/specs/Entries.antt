@@ -4,8 +4,10 @@ use Rattle.std.specs.Option.{option_map, ok_or}
 use Rattle.faults.specs.Refusals.{Refusal, naming, refuse}
 use Rattle.dates.specs.declared.day.Day.{Day}
 use Rattle.bonds.specs.declared.bond.Bond.{Bond}
+use Rattle.notices.specs.declared.notice.Notice.{Notice}
+use Rattle.notices.specs.declared.notice.Notice.TheVariants.{Declare, Cancel, Move, Withdraw}
 use Rattle.sheet.specs.declared.call.Call.{Call}
-use Rattle.sheet.specs.declared.call.Call.TheVariants.{Enter, Retire}
+use Rattle.sheet.specs.declared.call.Call.TheVariants.{Enter, Retire, Amend}
 use Rattle.notation.specs.InputLines.{Part, remark, entry, too_long}
 use Rattle.notation.specs.Readers.{before, when, and_then}
 use Rattle.notation.specs.Numerals.{number_of}
@@ -60,10 +62,25 @@ bond_at s =
 abbrev pub retired_at : List ℕ → Option ℕ
 retired_at s = and_then (number_at s) (λ number. at_end number.1 number.0)
 
--- the letter decides: B (66) enters a bond, X (88) retires one
+-- one date
+abbrev pub one_date_at : List ℕ → Option Day
+one_date_at s = and_then (date_at s) (λ day. at_end day.1 day.0)
+
+-- the date to open and the date to close
+abbrev pub move_at : List ℕ → Option Notice
+move_at s = and_then (date_at s) (λ from. and_then (date_at from.1) (λ to. at_end to.1 (Move from.0 to.0)))
+
+-- of a notice: D (68) declares, C (67) cancels, M (77) moves, W (87) withdraws
+abbrev pub notice_by : ℕ → List ℕ → Option Notice
+notice_by letter s =
+    cond (letter == 68) (option_map Declare (one_date_at s))
+    (cond (letter == 67) (option_map Cancel (one_date_at s)) (cond (letter == 77) (move_at s) (cond (letter == 87) (option_map Withdraw (one_date_at s)) None)))
+
+-- the letter decides: B (66) enters a bond, X (88) retires one, another is a notice's
 abbrev pub entry_by : ℕ → List ℕ → Option Call
 entry_by letter s =
-    cond (letter == 66) (option_map Enter (bond_at s)) (cond (letter == 88) (option_map Retire (retired_at s)) None)
+    cond (letter == 66) (option_map Enter (bond_at s))
+    (cond (letter == 88) (option_map Retire (retired_at s)) (option_map Amend (notice_by letter s)))
 
 -- a letter, and what it wants
 abbrev pub entry_of : List ℕ → Option Call

@@ -4,3 +4,4 @@ pub mod Readers
 pub mod Numerals
 pub mod DateTexts
 pub mod Entries
+pub mod Spellings

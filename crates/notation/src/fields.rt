@@ -1,13 +1,15 @@
-ghost use Rattle.std.specs.Prelude.{◌≡◌};
+ghost use Rattle.std.specs.Prelude.{◌≡◌, Some};
 ghost use Rattle.std.specs.Option.{option_map};
-ghost use Rattle.notation.specs.Readers.{Took};
-ghost use Rattle.notation.specs.Entries.{field_at, number_at, date_at, at_end, bond_at, retired_at, entry_by, entry_of};
+ghost use Rattle.notation.specs.Readers.{Took, Exactly};
+ghost use Rattle.notation.specs.Entries.{field_at, number_at, date_at, at_end, bond_at, retired_at, one_date_at, move_at, notice_by, entry_by, entry_of};
+ghost use Rattle.notation.specs.Spellings.{spelling, Typeable};
 
 use crate::date_text::date_of;
 use crate::numeral::number_of;
 use crate::scan::split_before;
 use bonds::Bond;
 use dates::Day;
+use notices::Notice;
 use sheet::Call;
 
 /// What is left of a line.
@@ -85,6 +87,36 @@ impl<'a> Fields<'a> {
         self.at_end(number)
     }
 
+    /// One date, and nothing after it.
+    fn one_date(&mut self) -> Option<Day>
+        ensures { result ≡ one_date_at self.old.rest.now }
+    {
+        let day = self.date()?;
+        self.at_end(day)
+    }
+
+    /// The date to open and the date to close, and nothing after them.
+    fn moved(&mut self) -> Option<Notice>
+        ensures { result ≡ move_at self.old.rest.now }
+    {
+        let from = self.date()?;
+        let to = self.date()?;
+        self.at_end(Notice::Move(from, to))
+    }
+
+    /// The notice whose form the letter decides.
+    fn notice(&mut self, letter: char) -> Option<Notice>
+        ensures { result ≡ notice_by letter self.old.rest.now }
+    {
+        match letter {
+            'D' => self.one_date().map(Notice::Declare),
+            'C' => self.one_date().map(Notice::Cancel),
+            'M' => self.moved(),
+            'W' => self.one_date().map(Notice::Withdraw),
+            _ => None,
+        }
+    }
+
     /// The entry whose form the letter decides.
     fn entry(&mut self, letter: char) -> Option<Call>
         ensures { result ≡ entry_by letter self.old.rest.now }
@@ -93,14 +125,15 @@ impl<'a> Fields<'a> {
         match letter {
             'B' => self.bond().map(Call::Enter),
             'X' => self.retired().map(Call::Retire),
-            _ => None,
+            _ => self.notice(letter).map(Call::Amend),
         }
     }
 }
 
 /// The entry that a line holds, if it has the form of one.
 pub fn entry_of(line: &[u8]) -> Option<Call>
-    ensures { result ≡ entry_of line.now }
+    ensures is { result ≡ entry_of line.now }
+    ensures exactly { (c : Call) → Exactly (result ≡ Some c) ((line.now ≡ spelling c) × Typeable c) }
 {
     let (letter, rest) = line.split_first()?;
     let mut fields = Fields { rest };
