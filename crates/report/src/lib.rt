@@ -2,6 +2,8 @@
 
 #![tactic(auto)]
 
+mod entry;
+mod printing;
 mod session;
 
 pub use session::{LONGEST_INPUT, report};

@@ -1,0 +1,3 @@
+pub mod Reading
+pub mod Made
+pub mod Answered

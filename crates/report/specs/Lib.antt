@@ -1,0 +1,4 @@
+pub mod Readings
+pub mod Program
+pub mod Printed
+pub mod ReportViews
