@@ -1,5 +1,6 @@
 #!/usr/bin/env python3
-"""What the program has to print, worked out a second time and independently, from docs/RULES.md, FORMATS.md and REFUSALS.md alone.
+"""What the program has to print, worked out a second time and independently, from the rules and not from the code
+(docs/RULES.md, FORMATS.md and REFUSALS.md state them).
 
 usage: python3 tools/reference.py < INPUT > OUTPUT
 
