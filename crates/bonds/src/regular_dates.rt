@@ -1,19 +1,22 @@
-ghost use Rattle.std.specs.Prelude.{◌≡◌, ◌<◌, ◌≤◌, min, length};
-ghost use Rattle.bonds.specs.Rolls.{regular, has_stub, kept};
+ghost use Rattle.std.specs.Prelude.{◌≡◌, ◌<◌, min, length};
+ghost use Rattle.dates.specs.MonthPlaces.{spot_of_place, spot_of_day};
+ghost use Rattle.bonds.specs.Rolls.{anchor, regular, has_stub, kept};
 ghost use Rattle.bonds.specs.Reached.{regular_answer};
 
 use crate::stub::Stub;
 use crate::terms::Terms;
+use dates::MonthPlace;
 
 /// Terms with so many regular dates have too many rolls.
 const MANY: u32 = 100;
 
 impl Terms {
-    /// The regular date k periods from the anchor: it lies strictly between the ends.
-    fn regular(&self, k: u32) -> Option<u32>
+    /// The regular date k periods from the anchor, whose month and place are given: it lies strictly between the ends.
+    fn regular(&self, at: MonthPlace, k: u32) -> Option<u32>
+        requires { spot_of_place at ≡ spot_of_day (anchor self.now) }
         ensures { result ≡ regular_answer self.now k }
     {
-        self.shifted(k)
+        self.shifted_from(at, k)
             .filter(|&day| self.effective < day && day < self.maturity)
     }
 
@@ -21,8 +24,10 @@ impl Terms {
     fn regular_count(&self) -> u32
         ensures { result ≡ min (length (regular self.now)) 100 }
     {
+        // The anchor's place is worked out once, and not for each period.
+        let at = self.anchor_place();
         (0..MANY)
-            .find(|&n| self.regular(n + 1).is_none())
+            .find(|&n| self.regular(at, n + 1).is_none())
             .unwrap_or(MANY)
     }
 

@@ -70,13 +70,29 @@ impl Terms {
         }
     }
 
-    /// The anchor shifted by k periods, if that is a day of the calendars.
+    /// The anchor's month, and its place there.
+    pub(crate) fn anchor_place(&self) -> MonthPlace
+        ensures { spot_of_place result ≡ spot_of_day (anchor self.now) }
+    {
+        Day(self.anchor()).month_place().unwrap()
+    }
+
+    /// The anchor shifted by k periods, if that is a day of the calendars, given the anchor's month and place.
+    // Laid into its callers: in a loop over k the place of the regular dates is then worked out once.
+    #[inline(always)]
     #[tactic(auto, using(crate::proofs::Shifting::shift_is))]
+    pub(crate) fn shifted_from(&self, at: MonthPlace, k: u32) -> Option<u32>
+        requires { spot_of_place at ≡ spot_of_day (anchor self.now) }
+        ensures { result ≡ shift_answer self.now k }
+    {
+        let month = self.month_from(at.month, self.months.checked_mul(k)?)?;
+        Some(month.day_at(self.place(at)).0)
+    }
+
+    /// The anchor shifted by k periods, if that is a day of the calendars.
     pub(crate) fn shifted(&self, k: u32) -> Option<u32>
         ensures { result ≡ shift_answer self.now k }
     {
-        let at = Day(self.anchor()).month_place().ok()?;
-        let month = self.month_from(at.month, self.months.checked_mul(k)?)?;
-        Some(month.day_at(self.place(at)).0)
+        self.shifted_from(self.anchor_place(), k)
     }
 }

@@ -1,12 +1,9 @@
 -- The table of the code once more: the check compares the two.
-use Rattle.std.proofs.Common.{◌≡◌, ℕ, ◌+◌, ◌-◌, ◌<◌, Ok, List, [], ◌∷◌, get_or, refl, arith}
-use Rattle.std.proofs.lemmas.Bool.Decides.{nat_tests}
-use Rattle.dates.specs.Easter.{easter_sum, easter_month, easter_day, easter_after, easter_answer}
+use Rattle.std.proofs.Common.{◌≡◌, ℕ, ◌+◌, ◌<◌, ◌≤◌, List, [], ◌∷◌, get_or, refl}
+use Rattle.dates.specs.Easter.{easter_sum, easter_month, easter_day, easter_after}
 use Rattle.dates.specs.Years.{leap, new_year, month_start}
-use Rattle.dates.specs.Months.{first_of, month_answer}
 use Rattle.dates.specs.Civil.{day_number}
-use Rattle.dates.proofs.CivilMonths.{month_granted}
-use Rattle.dates.proofs.Computed.{table, equal}
+use Rattle.dates.proofs.Computed.{table, equal, at_most}
 
 unfoldable pub entries : List ℕ
 entries =
@@ -30,6 +27,11 @@ pub right : (n : ℕ) → n < 300 → get_or entries n 0 ≡ easter_after (1900 
 unfolding entries easter_sum easter_month easter_day easter_after
 right = table entries (λ k. easter_after (1900 + k)) 300 refl
 
+-- no Easter is more than 35 days after 21 March
+pub high : (n : ℕ) → n < 300 → easter_after (1900 + n) ≤ 35
+unfolding easter_sum easter_month easter_day easter_after
+high = at_most (λ k. easter_after (1900 + k)) (λ k. 35) 300 refl
+
 -- that many days after 21 March is the day of the rule's month and day
 pub on_date : (n : ℕ) → n < 300
     → new_year n + month_start (leap (1900 + n)) 2 + 20 + easter_after (1900 + n) ≡ day_number (1900 + n) (easter_month (1900 + n)) (easter_day (1900 + n))
@@ -37,11 +39,3 @@ unfolding new_year month_start easter_sum easter_month easter_day easter_after
 on_date =
     equal (λ k. new_year k + month_start (leap (1900 + k)) 2 + 20 + easter_after (1900 + k))
     (λ k. day_number (1900 + k) (easter_month (1900 + k)) (easter_day (1900 + k))) 300 refl
-
--- Easter Sunday, from the March of a year
-pub from_march : (y q : ℕ) → Ok q ≡ month_answer y 3 → Ok (record { 0 = first_of q + 20 + easter_after y }) ≡ easter_answer y
-from_march y q e =
-    let m = month_granted y 3 q e in
-    let x : 1900 + (y - 1900) ≡ y = omega arith in
-    let o = rw x at (on_date (y - 1900) (omega arith)) in
-    grind (arith, nat_tests)

@@ -7,5 +7,4 @@ pub mod EasterTable
 pub mod RoundTrip
 pub mod Asked
 pub mod MonthShifts
-pub mod CivilMonths
 pub mod DateTexts

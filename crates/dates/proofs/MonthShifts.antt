@@ -1,12 +1,12 @@
 -- Months in order: each begins where the one before ends, so a day of a later month is a later day.
-use Rattle.std.proofs.Common.{◌≡◌, ℕ, suc, ◌+◌, ◌-◌, ◌*◌, ◌/◌, ◌%◌, ◌<◌, ◌≤◌, refl, inl, inr, arith}
-use Rattle.std.proofs.lemmas.Bool.{cases_lt, cases_order}
+use Rattle.std.proofs.Common.{◌≡◌, ℕ, suc, ◌+◌, ◌*◌, ◌/◌, ◌%◌, ◌<◌, ◌≤◌, refl, inl, inr, arith}
+use Rattle.std.proofs.lemmas.Bool.{cases_lt}
 use Rattle.dates.specs.Years.{leap, new_year, month_len, month_start, year_of, month_of, place_of}
 use Rattle.dates.specs.Months.{month_no, first_of, len_of, cut_to}
 use Rattle.dates.proofs.Rows.{rises}
 use Rattle.dates.proofs.YearCounts.{year_more}
-use Rattle.dates.proofs.MonthTables.{month_more, whole, whole_high, len_low, start_low, start_far}
-use Rattle.dates.proofs.Facts.{parts, in_year, month_zero, year_end}
+use Rattle.dates.proofs.MonthTables.{month_more, whole, len_low}
+use Rattle.dates.proofs.Facts.{parts, month_zero, year_end}
 
 pub len_least : (q : ℕ) → 28 ≤ len_of q
 unfolding len_of
@@ -76,53 +76,3 @@ stands d h = omega (arith, first_place d h, place_in d h)
 
 pub month_top : (d : ℕ) → d ≤ 109572 → month_no d < 3600
 month_top d h = let p = parts d h in omega (arith, p.year, p.month)
-
--- the only month that begins by a day and ends after it is the day's
-pub month_is : (d q : ℕ) → d ≤ 109572 → first_of q ≤ d → d < first_of (suc q) → q ≡ month_no d
-month_is d q h l u =
-    let f = first_place d h in
-    let g = place_in d h in
-    elim (cases_order q (month_no d)) [
-      | inl e ↦ e
-      | inr (inl lt) ↦ absurd (omega (arith, first_rises (suc q) (month_no d) lt))
-      | inr (inr gt) ↦ absurd (omega (arith, first_more (month_no d), first_rises (suc (month_no d)) q gt))
-    ]
-
--- The guess: since no month is longer than 31 days, it is the day's month or the one before.
-pub record Guessed (d q : ℕ) : Type 0 where
-  pub within : q < 3600
-  pub low : first_of q ≤ d
-  pub high : first_of (suc q) ≤ d → d < first_of (suc (suc q))
-
-pub guessed : (d : ℕ) → d ≤ 109572 → Guessed d (12 * year_of d + (d - new_year (year_of d)) / 31)
-guessed d h =
-    let y : ℕ = year_of d in
-    let m : ℕ = (d - new_year y) / 31 in
-    let i = in_year d h in
-    let top : m < 12 = omega (arith, i.low, i.high, year_more y, whole (leap (1900 + y)), whole_high (leap (1900 + y))) in
-    record {
-      within = omega (arith, i.top);
-      low = omega (arith, first_in y m top, start_low (leap (1900 + y)) m top, i.low);
-      high = λ l. elim (cases_lt m 11) [
-        | inl lt ↦
-            (let e : 12 * y + suc m ≡ suc (12 * y + m) = omega arith in
-            let f = rw e at (first_in y (suc m) (omega arith)) in
-            let n = rw e at (len_in y (suc m) (omega arith)) in
-            omega (arith, first_more (suc (12 * y + m)), month_more (leap (1900 + y)) (suc m), start_far (leap (1900 + y)) m lt, i.low))
-        | inr ge ↦
-            (let e : 12 * suc y + 0 ≡ suc (12 * y + m) = omega arith in
-            let f = rw e at (first_in (suc y) 0 (omega arith)) in
-            absurd (omega (arith, month_zero (leap (1900 + suc y)), i.high)))
-      ];
-    }
-
-pub guess_holds : (d q : ℕ) → d ≤ 109572 → Guessed d q → d < first_of (suc q) → q ≡ month_no d
-guess_holds d q h g l = month_is d q h g.low l
-
-pub guess_early : (d q : ℕ) → d ≤ 109572 → Guessed d q → first_of (suc q) ≤ d → suc q ≡ month_no d
-guess_early d q h g l = month_is d (suc q) h l (g.high l)
-
-pub guess_last : (d q : ℕ) → d ≤ 109572 → Guessed d q → 3600 ≤ q + 1 → q ≡ month_no d
-guess_last d q h g t =
-    let e : suc q ≡ 3600 = omega (arith, g.within) in
-    month_is d q h g.low (rw e (omega (arith, end_is)))

@@ -1,27 +1,41 @@
-ghost use Rattle.std.specs.Prelude.{◌≡◌, ◌≤◌};
+ghost use Rattle.std.specs.Prelude.{◌≡◌, ◌+◌, ◌<◌, ◌≤◌};
 ghost use Rattle.faults.specs.Refusals.{told, calendar_refusal};
 ghost use Rattle.dates.specs.Civil.{asked};
-ghost use Rattle.dates.specs.Easter.{easter_after, easter_answer, easter_of_day};
+ghost use Rattle.dates.specs.Easter.{easter_after, easter_number, easter_answer, easter_of_day};
 
 use crate::day::Day;
 use crate::easter_table::AFTER;
-use crate::month::Month;
+use crate::gregorian::{is_leap, month_start, new_year, year_of};
 use faults::CalendarFault;
 
-/// The days from 21 March to Easter Sunday of a year.
-fn days_after(year: u16) -> u8
-    requires { (1900 ≤ year) × (year ≤ 2199) }
-    ensures { result ≡ easter_after year }
+/// The days from 21 March to Easter Sunday of the year 1900 + n.
+fn days_after(n: u32) -> u8
+    requires { n < 300 }
+    ensures is { result ≡ easter_after (1900 + n) }
+    ensures bound { result ≤ 35 }
 {
-    AFTER[usize::from(year - 1900)]
+    // `as`: there is no `From` of a u32 for a usize.
+    AFTER[n as usize]
+}
+
+/// Easter Sunday of the year 1900 + n.
+fn sunday(n: u32) -> Day
+    requires { n < 300 }
+    ensures { result ≡ record { 0 = easter_number (1900 + n) } }
+{
+    // Narrowed by `as`: a year's bound leaves no error that `try_from` could give.
+    let march = new_year(n) + month_start(is_leap(1900 + n as u16), 2);
+    Day(march + 20 + u32::from(days_after(n)))
 }
 
 /// Easter Sunday of a year from 1900 to 2199; any other year is refused.
 pub fn easter_sunday(year: u16) -> Result<Day, CalendarFault>
     ensures { told calendar_refusal result ≡ easter_answer year }
 {
-    let march = Month::of(year, 3)?;
-    Ok(Day(march.first() + 20 + u32::from(days_after(year))))
+    if !(1900..=2199).contains(&year) {
+        return Err(CalendarFault::BadEntry);
+    }
+    Ok(sunday(u32::from(year - 1900)))
 }
 
 impl Day {
@@ -29,6 +43,7 @@ impl Day {
     pub fn easter(self) -> Result<Day, CalendarFault>
         ensures { told calendar_refusal result ≡ asked self.0 (easter_of_day self.0) }
     {
-        easter_sunday(self.civil_date()?.year)
+        let Day(number) = self.checked()?;
+        Ok(sunday(year_of(number)))
     }
 }

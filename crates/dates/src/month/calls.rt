@@ -1,21 +1,15 @@
-ghost use Rattle.std.specs.Prelude.{◌≡◌, ℕ, ◌+◌, ◌/◌, ◌%◌, ◌<◌, ◌≤◌};
+ghost use Rattle.std.specs.Prelude.{◌≡◌, ◌+◌, ◌/◌, ◌%◌, ◌≤◌};
 ghost use Rattle.std.specs.Option.{option_map as option_mapped};
 ghost use Rattle.std.specs.Result.{result_map_both};
 ghost use Rattle.faults.specs.Refusals.{calendar_refusal};
 ghost use Rattle.dates.specs.Civil.{asked};
-ghost use Rattle.dates.specs.Months.{first_of, len_of, cut_to, month_no, month_answer, later_answer, earlier_answer};
+ghost use Rattle.dates.specs.Months.{first_of, len_of, cut_to, month_answer, later_answer, earlier_answer};
 ghost use Rattle.dates.specs.MonthPlaces.{spot_of_place, spot_of_day};
 
 use crate::day::Day;
-use crate::gregorian::{is_leap, new_year, year_of};
+use crate::gregorian::{is_leap, month_len, month_start, new_year, spot_of};
 use crate::month::{Month, MonthPlace};
 use faults::CalendarFault;
-
-/// The days of a common year before each of its months.
-const STARTS: [u16; 12] = [0, 31, 59, 90, 120, 151, 181, 212, 243, 273, 304, 334];
-
-/// The lengths of the months of a common year.
-const LENGTHS: [u8; 12] = [31, 28, 31, 30, 31, 30, 31, 31, 30, 31, 30, 31];
 
 impl Month {
     /// A month of a year from 1900 to 2199; any other is refused.
@@ -30,37 +24,13 @@ impl Month {
         })
     }
 
-    /// The month in which a day lies.
-    fn holding(d: u32) -> Month
-        requires { d ≤ 109572 }
-        ensures { result.index ≡ month_no d }
-    {
-        let year = year_of(d);
-        // A month has at most 31 days and a year at most 7 fewer than 12 such: the guess is the month or the one before it.
-        let guess = Month {
-            index: 12 * year + (d - new_year(year)) / 31,
-        };
-        match guess.later(1) {
-            Some(next) if next.first() <= d => next,
-            _ => guess,
-        }
-    }
-
     /// The month's year.
     pub(crate) fn year(self) -> u16
         ensures is { result ≡ 1900 + self.index / 12 }
         ensures bound { result ≤ 2199 }
     {
-        // Narrowed by `as`, here and for the number: a month's bound leaves no error that `try_from` could give.
+        // Narrowed by `as`: a month's bound leaves no error that `try_from` could give.
         1900 + (self.index / 12) as u16
-    }
-
-    /// The month's number in its year, from 1.
-    pub(crate) fn number(self) -> u8
-        ensures is { result ≡ self.index % 12 + 1 }
-        ensures bound { result ≤ 12 }
-    {
-        (self.index % 12) as u8 + 1
     }
 
     /// How many days the month has.
@@ -68,12 +38,7 @@ impl Month {
         ensures is { result ≡ len_of self.index }
         ensures bound { (28 ≤ result) × (result ≤ 31) }
     {
-        let number = self.number();
-        if is_leap(self.year()) && number == 2 {
-            29
-        } else {
-            u32::from(LENGTHS[usize::from(number - 1)])
-        }
+        month_len(is_leap(self.year()), self.index % 12)
     }
 
     /// The days before the month's first.
@@ -81,9 +46,7 @@ impl Month {
         ensures is { result ≡ first_of self.index }
         ensures bound { result ≤ 109800 }
     {
-        let number = self.number();
-        let leap_day = u32::from(is_leap(self.year()) && number > 2);
-        new_year(self.index / 12) + u32::from(STARTS[usize::from(number - 1)]) + leap_day
+        new_year(self.index / 12) + month_start(is_leap(self.year()), self.index % 12)
     }
 
     /// The month's day at a place, from 0, cut to the month's length.
@@ -116,14 +79,17 @@ impl Month {
 
 impl Day {
     /// The month in which a day lies, and its place there.
+    #[inline(always)]
     pub fn month_place(self) -> Result<MonthPlace, CalendarFault>
         ensures { result_map_both spot_of_place calendar_refusal result ≡ asked self.0 (spot_of_day self.0) }
     {
         let Day(number) = self.checked()?;
-        let month = Month::holding(number);
+        let spot = spot_of(number);
         Ok(MonthPlace {
-            month,
-            place: number - month.first(),
+            month: Month {
+                index: 12 * spot.year + spot.month,
+            },
+            place: spot.place,
         })
     }
 }

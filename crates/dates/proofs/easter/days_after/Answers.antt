@@ -1,9 +1,7 @@
-use Rattle.std.proofs.Common.{◌≡◌, ◌+◌, ◌-◌, arith}
-use Rattle.dates.proofs.EasterTable.{entries, right}
+use Rattle.std.proofs.Common.{arith}
+use Rattle.dates.proofs.EasterTable.{entries, right, high}
 use Rattle.dates.proofs.easter.days_after.Goals as goal
 
 pub returns : goal.returns
 unfolding entries
-returns c =
-    let x : 1900 + (c.args.year - 1900) ≡ c.args.year = omega arith in
-    rw (c.from.ensures) (rw x at (right (c.args.year - 1900) (omega arith)))
+returns c = record { is = right c.args.n c.requires; bound = omega (arith, right c.args.n c.requires, high c.args.n c.requires) }
