@@ -59,10 +59,6 @@ pub record Lawful (tries : ℕ → List ℕ) : Type 0 where
   pub near : (u d : ℕ) → Served u → Among d (tries u) → (u ≤ d + 30) × (d ≤ u + 30)
   pub order : (good : ℕ → Bool) (u v a b : ℕ) → Served u → Served v → u ≤ v → first_good good (tries u) ≡ Some a → first_good good (tries v) ≡ Some b → a ≤ b
 
--- what is near by 30 days is near by a reach that is 30
-pub near_by : {reach u d : ℕ} → reach ≡ 30 → (u ≤ d + 30) × (d ≤ u + 30) → (u ≤ d + reach) × (d ≤ u + reach)
-near_by e h = (omega (arith, e, h.0), omega (arith, e, h.1))
-
 -- the end is not before u, at most 30 days after it, and never falls
 pub record Ending (last : ℕ → ℕ) : Type 0 where
   pub low : (u : ℕ) → u ≤ 109207 → u ≤ last u

@@ -1,21 +1,12 @@
 ghost use Rattle.std.specs.Prelude.{◌≡◌, ℕ, ◌≤◌, List};
 ghost use Rattle.conventions.specs.Turns.{turning};
-ghost use Rattle.conventions.specs.TurnLaws.{Lawful, Ending};
+ghost use Rattle.conventions.specs.TurnLaws.{Ending};
 
+// No `impl<T: Turns> Convention for T`: beside such a block the check takes the `impl` of one's own convention for one of two.
 /// A convention that tries the days up to a last one, then some before the unadjusted day, the nearest first.
 pub(crate) trait Turns: Copy {
-    /// The letter that stands for it.
-    const LETTER: char;
-
-    /// How far from the unadjusted day a day tried may be.
-    const REACH: u32;
-
     /// How many days before the unadjusted one are tried.
     const BACK: u32;
-
-    ghost LETTER: { ℕ };
-
-    ghost REACH: { ℕ };
 
     ghost BACK: { ℕ };
 
@@ -37,12 +28,6 @@ pub(crate) trait Turns: Copy {
 
     /// At most 30 days before the unadjusted one are tried.
     ghost few: { BACK ≤ 30 };
-
-    /// The reach is 30 days.
-    ghost thirty: { REACH ≡ 30 };
-
-    /// The laws of a convention hold of the days tried.
-    ghost lawful: { Lawful tries };
 }
 
-mod convention;
+pub(crate) mod calls;

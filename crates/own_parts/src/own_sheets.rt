@@ -1,10 +1,9 @@
 use crate::closed_season::ClosedSeason;
 use crate::next_day::NextDay;
-use amendments::{Amendable, AmendmentLayer};
+use amendments::AmendmentLayer;
 use bonds::Bond;
 use calendars::{Joint, Layer, target_calendar};
 use changes::Change;
-use conventions::Convention;
 use dates::Day;
 use day_cache::DayCache;
 use faults::{Fault, GenerationFault, RollAt};
@@ -61,14 +60,10 @@ fn tell(text: &mut String, outcomes: &[Outcome]) -> Result<(), AllocError> {
     Ok(())
 }
 
-// Generic in the convention: see docs/EXTENDING.md.
 /// Enters the bond and declares 1 February, then the day after it; the first notice's changes are told.
-fn declare_twice<P: Amendable + Drop, C: Convention>(
-    text: &mut String,
-    calendar: P,
-    convention: C,
-) -> Result<[Result<Answer, Fault>; 3], AllocError> {
-    let mut sheet = Sheet::new(calendar, convention);
+fn declare_twice(text: &mut String) -> Result<[Result<Answer, Fault>; 3], AllocError> {
+    let calendar = AmendmentLayer::new(season(), 9);
+    let mut sheet = Sheet::new(calendar, NextDay);
     let mut list = [None; 2];
     let entered = sheet.call(Call::Enter(BOND), &mut list);
     let first = sheet.call(Call::Amend(Notice::Declare(FEBRUARY)), &mut list);
@@ -79,9 +74,8 @@ fn declare_twice<P: Amendable + Drop, C: Convention>(
 
 #[test]
 fn days_declared(rt: HostRuntime) -> Result<(), Fail> {
-    let calendar = AmendmentLayer::new(season(), 9);
     let mut text = String::new(rt.alloc());
-    let [entered, first, second] = declare_twice(&mut text, calendar, NextDay)?;
+    let [entered, first, second] = declare_twice(&mut text)?;
     assert_eq!(rt; entered, Ok(Answer::Entered(1, 3)));
     // The last roll goes to 2 February.
     let counts = Counts {
@@ -127,22 +121,18 @@ withdrawn 1 2
 no 4
 ";
 
-/// Makes the calls on a sheet over any amendable calendar and any convention.
-fn outcomes<P: Amendable + Drop, C: Convention>(
-    heap: Global,
-    calendar: P,
-    convention: C,
-) -> Result<Vec<Outcome>, AllocError> {
+/// Makes the calls on a sheet over both parts, with T and a cache.
+fn outcomes(heap: Global) -> Result<Vec<Outcome>, Fail> {
+    let joint = Joint::new(season(), target_calendar()?);
+    let calendar = DayCache::new(AmendmentLayer::new(joint, 9), Day(44_925));
     let mut list = [None; 2];
-    let run = make_calls(heap, calendar, convention, &CALLS, &mut list)?;
+    let run = make_calls(heap, calendar, NextDay, &CALLS, &mut list)?;
     Ok(run.outcomes)
 }
 
 #[test]
 fn calls_made(rt: HostRuntime) -> Result<(), Fail> {
-    let joint = Joint::new(season(), target_calendar()?);
-    let calendar = DayCache::new(AmendmentLayer::new(joint, 9), Day(44_925));
-    let outcomes = outcomes(rt.alloc(), calendar, NextDay)?;
+    let outcomes = outcomes(rt.alloc())?;
     let mut text = String::new(rt.alloc());
     tell(&mut text, outcomes.as_slice())?;
     assert_eq!(rt; text.as_str(), TOLD);
