@@ -1,12 +1,11 @@
-use calendars::Code;
 use dates::Day;
 use tables::Keyed;
 
-/// A day that is entered, and its code.
+/// A day that is entered, and its code; any numbers fit.
 #[derive(Clone, Copy)]
 pub struct Amendment {
     pub day: Day,
-    pub code: Code,
+    pub code: u8,
 }
 
 impl Keyed for Amendment {

@@ -4,6 +4,7 @@
 
 mod amendable;
 mod amendment;
+mod entered;
 mod layer;
 
 pub use amendable::Amendable;

@@ -11,7 +11,7 @@ ghost use Rattle.tables.proofs.Views.{rising_map};
 ghost use Rattle.std.proofs.lemmas.List.{length-map, length-take-le};
 
 use crate::amendable::Amendable;
-use crate::amendment::Amendment;
+use crate::entered::Entered;
 use crate::layer::AmendmentLayer;
 use calendars::{Calendar, Code, Layer};
 use dates::Day;
@@ -23,7 +23,7 @@ impl<K: Calendar> AmendmentLayer<K> {
     pub fn new(under: K, number: u8) -> AmendmentLayer<K>
         ensures { layer_now K.Calendar.codes result ≡ meaning (K.Calendar.codes under) (record { under = K.Calendar.codes under; entered = []; number = layer_of number }) }
     {
-        let empty = Amendment {
+        let empty = Entered {
             day: Day(0),
             code: Code::new(0),
         };
@@ -53,7 +53,7 @@ impl<K: Calendar> AmendmentLayer<K> {
             self.entries[at].code = code;
             return Ok(());
         }
-        if !insert(&mut self.entries, self.count, Amendment { day, code }) {
+        if !insert(&mut self.entries, self.count, Entered { day, code }) {
             return Err(CalendarFault::EntriesFull);
         }
         self.count += 1;
