@@ -12,7 +12,7 @@ use faults::CalendarFault;
 pub struct DayCache<P: Calendar> {
     lower: P,
     kept: KeptDays,
-    ghost faithful: { Faithful kept.words kept.start (P.Calendar.codes lower) } by { Faithful-prop kept.words kept.start (P.Calendar.codes lower) },
+    pub ghost faithful: { Faithful kept.words kept.start (P.Calendar.codes lower) } by { Faithful-prop kept.words kept.start (P.Calendar.codes lower) },
 }
 
 impl<P: Amendable> DayCache<P> {

@@ -23,7 +23,7 @@ calendar_after m (Move from to) = amended (amended m from.0 0) to.0 m.rest.numbe
 calendar_after m (Withdraw d) = restored m d.0
 
 -- no code is above 15 with that of one day made another
-recoded_small : (codes : ℕ → ℕ) (day code : ℕ) → ((d : ℕ) → codes d ≤ 15) → code ≤ 15 → (d : ℕ) → recoded codes day code d ≤ 15
+pub recoded_small : (codes : ℕ → ℕ) (day code : ℕ) → ((d : ℕ) → codes d ≤ 15) → code ≤ 15 → (d : ℕ) → recoded codes day code d ≤ 15
 recoded_small codes day code others one d = cond_both (d == day) code (codes d) (λ c. c ≤ 15) (λ _. one) (λ _. others d)
 
 -- nor after a notice
