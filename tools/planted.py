@@ -9,7 +9,7 @@ import pathlib
 import re
 import sys
 
-REFUSED = re.compile(r"rt: must-fail (\w+)/(\w+)\.edit: refused, as it must be(?:: (.*))?")
+REFUSED = re.compile(r"rt: must-fail (\w+)/(\w+)\.edit: refused, as it must be(.*)")
 PLACE = re.compile(r"(?:\./)?((?:src|proofs|specs)/[^:]+):")
 FACT = re.compile(r"`([\w'+-]*(?:returns|requires|preserved|invariant|bounds|init|overflow)[\w'+-]*)`")
 
@@ -29,6 +29,8 @@ def code(text):
 
 def fact(outcome):
     """The goal that failed first, and the function or file in which it stands."""
+    if "only because a proof file names" in outcome:
+        return "a name that its proof cites, alone", ""
     place = PLACE.search(outcome)
     where = place.group(1) if place else ""
     if where.startswith("proofs/"):
@@ -42,7 +44,7 @@ def main():
     for line in sys.stdin:
         match = REFUSED.match(line)
         if match:
-            outcomes[match.group(1), match.group(2)] = match.group(3) or ""
+            outcomes[match.group(1), match.group(2)] = match.group(3)
     for crate in sorted({crate for crate, _ in outcomes}):
         print(f"\n### {crate}\n\n| Planted in | Before | After | Refused by |\n|---|---|---|---|")
         for name in sorted(name for other, name in outcomes if other == crate):
